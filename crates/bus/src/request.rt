@@ -1,0 +1,67 @@
+//! What is asked of a memory, and what it answers.
+
+ghost use mathlib.Core.Path.{_≡_};
+ghost use Rattle.bus.specs.Request.{accessOf, kindOf};
+
+/// How many bytes a write changes: 4, 2 or 1.
+#[derive(Clone, Copy, PartialEq, Eq, Debug)]
+pub enum Width {
+    Word,
+    Half,
+    Byte,
+}
+
+/// The four kinds of request; a read always asks for a word.
+#[derive(Clone, Copy, PartialEq, Eq, Debug)]
+pub enum Kind {
+    Read,
+    Write(Width),
+}
+
+/// What a request does at its address. A half or a byte is taken from the low bits of the data.
+#[derive(Clone, Copy, PartialEq, Eq, Debug)]
+pub enum Action {
+    Read,
+    Write(Width, u32),
+}
+
+impl Action {
+    /// The kind of the request, which leaves the data out.
+    pub fn kind(self) -> Kind
+        ensures { λ r. ⌜ r ≡ kindOf self ⌝ }
+    {
+        match self {
+            Action::Read => Kind::Read,
+            Action::Write(width, _) => Kind::Write(width),
+        }
+    }
+}
+
+#[derive(Clone, Copy, PartialEq, Eq, Debug)]
+pub struct Request {
+    pub address: u32,
+    pub action: Action,
+}
+
+/// A request without its data: two requests are the same when their accesses are equal.
+#[derive(Clone, Copy, PartialEq, Eq, Debug)]
+pub struct Access {
+    pub address: u32,
+    pub kind: Kind,
+}
+
+impl Request {
+    pub fn access(self) -> Access
+        ensures { λ r. ⌜ r ≡ accessOf self ⌝ }
+    {
+        Access { address: self.address, kind: self.action.kind() }
+    }
+}
+
+/// `Done` carries the word that a read found, and 0 after a write.
+#[derive(Clone, Copy, PartialEq, Eq, Debug)]
+pub enum Answer {
+    Wait,
+    BusError,
+    Done(u32),
+}
