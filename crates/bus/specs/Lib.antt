@@ -4,5 +4,6 @@ pub mod Meaning
 pub mod Placement
 pub mod Region
 pub mod Request
+pub mod Settled
 pub mod Split
 pub mod Window

@@ -1,28 +1,32 @@
--- Window: a part of a memory, seen from address 0 up to a limit. Base and limit are multiples of 4. Assumes nothing.
+-- Window: a part of a memory, seen from address 0 up to a limit. Assumes nothing.
 use mathlib.Core.Bool.{true, cond}
 use mathlib.Core.Path.{_≡_}
-use Prim.Native.Nat.{ℕ, _+_, _%_, _^_}
+use Prim.Native.Nat.{ℕ, _+_, _%_, _^_, min}
 use lib.Dec.{ltb}
 use Rattle.std.specs.Orderings.{When}
 use Rattle.bus.specs.Meaning.{Meaning}
-use Rattle.bus.specs.Request.{moved}
+use Rattle.bus.specs.Request.{moved, wordOf}
 use Rattle.bus.specs.declared.request.Access.{Access}
 use Rattle.bus.specs.declared.request.Answer.{Answer}
 use Rattle.bus.specs.declared.request.Answer.the-variants.{BusError}
 use Rattle.bus.specs.declared.request.Request.{Request}
 
--- the address below that an address of the window stands for; the sum wraps
+-- the address below that an address of the window stands for: the base is rounded down, and the sum wraps
 abbrev pub onto : ℕ → ℕ → ℕ
-onto base address = (base + address) % 2 ^ 32
+onto base address = (wordOf base + address) % 2 ^ 32
+
+-- where the window ends: the limit is rounded down, and lies within the 2 ^ 32 addresses
+abbrev pub end : ℕ → ℕ
+end limit = min (wordOf limit) (2 ^ 32)
 
 -- from the limit up, every word is refused without a wait and every byte means 0; W stays
 abbrev pub window : ℕ → ℕ → Meaning → Meaning
 window base limit m =
     record {
-      byte = λ x. cond (ltb x limit) (m .byte (onto base x)) 0;
-      unreadable = λ w. cond (ltb w limit) (m .unreadable (onto base w)) true;
-      unwritable = λ w. cond (ltb w limit) (m .unwritable (onto base w)) true;
-      waits = λ x. cond (ltb (x .address) limit) (m .waits (record { address = onto base (x .address); kind = x .kind })) 0;
+      byte = λ x. cond (ltb x (end limit)) (m .byte (onto base x)) 0;
+      unreadable = λ w. cond (ltb w (end limit)) (m .unreadable (onto base w)) true;
+      unwritable = λ w. cond (ltb w (end limit)) (m .unwritable (onto base w)) true;
+      waits = λ x. cond (ltb (x .address) (end limit)) (m .waits (record { address = onto base (x .address); kind = x .kind })) 0;
       longest = m .longest;
     }
 
@@ -30,4 +34,4 @@ window base limit m =
 abbrev pub WindowSteps : {A : Type 0} → (A → Request → Answer → A → Type 0) → ℕ → ℕ → A → Request → Answer → ℕ → ℕ → A → Type 0
 WindowSteps steps base limit s q a base′ limit′ s′ =
     (base′ ≡ base) × (limit′ ≡ limit)
-    × When (ltb (q .address) limit) (steps s (moved (onto base (q .address)) q) a s′) ((a ≡ BusError) × (s′ ≡ s))
+    × When (ltb (q .address) (end limit)) (steps s (moved (onto base (q .address)) q) a s′) ((a ≡ BusError) × (s′ ≡ s))

@@ -8,5 +8,9 @@ mod region;
 pub mod request;
 pub mod rom;
 pub mod scratch;
+pub mod settle;
 pub mod split;
 pub mod window;
+
+#[cfg(test)]
+mod tests;

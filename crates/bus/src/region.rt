@@ -13,12 +13,13 @@ use super::request::Action;
 use super::request::Answer;
 use super::request::Request;
 use super::request::Width;
+use super::request::word_of;
 
 /// Where the word of an address begins within the range, or none where it lies outside.
 pub(crate) fn offset(base: u32, length: usize, address: u32) -> Option<usize>
     ensures { λ r. ⌜ r ≡ cond (outside base length (wordOf address)) None (Some (wordOf address - base)) ⌝ }
 {
-    let word = address - address % 4;
+    let word = word_of(address);
     if word < base {
         return None;
     }

@@ -1,7 +1,14 @@
 //! What is asked of a memory, and what it answers.
 
 ghost use mathlib.Core.Path.{_≡_};
-ghost use Rattle.bus.specs.Request.{accessOf, kindOf};
+ghost use Rattle.bus.specs.Request.{accessOf, kindOf, wordOf};
+
+/// The name of the word that an address lies in: the address with its two low bits cleared.
+pub fn word_of(address: u32) -> u32
+    ensures { λ r. ⌜ r ≡ wordOf address ⌝ }
+{
+    address - address % 4
+}
 
 /// How many bytes a write changes: 4, 2 or 1.
 #[derive(Clone, Copy, PartialEq, Eq, Debug)]

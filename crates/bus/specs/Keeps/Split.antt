@@ -23,20 +23,20 @@ pick P false m n h k = k
 pub split-sound : (mark : ℕ) (one two : Meaning) → Sound one → Sound two → Sound (split mark one two)
 split-sound mark one two h k =
     record {
-      bytes = λ x. pick (λ n. n < 256) (ltb x mark) (one .byte x) (two .byte x) (h .bytes x) (k .bytes x);
-      waits = λ x. pick (λ n. n ≤ max (one .longest) (two .longest)) (ltb (x .address) mark) (one .waits x) (two .waits x) (omega (arith, h .waits x)) (omega (arith, k .waits x));
+      bytes = λ x. pick (λ n. n < 256) (ltb x (wordOf mark)) (one .byte x) (two .byte x) (h .bytes x) (k .bytes x);
+      waits = λ x. pick (λ n. n ≤ max (one .longest) (two .longest)) (ltb (x .address) (wordOf mark)) (one .waits x) (two .waits x) (omega (arith, h .waits x)) (omega (arith, k .waits x));
       longest = omega (arith, h .longest, k .longest);
     }
 
-module _ (mark : ℕ) (whole : mark % 4 ≡ 0) (address : ℕ) (y : Action) where
+module _ (mark address : ℕ) (y : Action) where
   -- the mark parts no word
-  below : address < mark → (x : ℕ) → wordOf x ≡ wordOf address → ltb x mark ≡ true
-  below l x e = lt-ltb x mark (omega arith)
+  below : address < wordOf mark → (x : ℕ) → wordOf x ≡ wordOf address → ltb x (wordOf mark) ≡ true
+  below l x e = lt-ltb x (wordOf mark) (omega arith)
 
-  above : mark ≤ address → (x : ℕ) → wordOf x ≡ wordOf address → ltb x mark ≡ false
-  above l x e = le-ltb x mark (omega arith)
+  above : wordOf mark ≤ address → (x : ℕ) → wordOf x ≡ wordOf address → ltb x (wordOf mark) ≡ false
+  above l x e = le-ltb x (wordOf mark) (omega arith)
 
-  first-asked : (one one′ two : Meaning) → Sound (split mark one′ two) → address < mark → {a : Answer} → Answers one (request address y) a one′ → Answers (split mark one two) (request address y) a (split mark one′ two)
+  first-asked : (one one′ two : Meaning) → Sound (split mark one′ two) → address < wordOf mark → {a : Answer} → Answers one (request address y) a one′ → Answers (split mark one two) (request address y) a (split mark one′ two)
   first-asked one one′ two sound l h =
       layer (
         record {
@@ -48,19 +48,19 @@ module _ (mark : ℕ) (whole : mark % 4 ≡ 0) (address : ℕ) (y : Action) wher
                 low = refl;
                 bytes = λ i s. rw (below l (wordOf address + i) (omega arith));
               };
-          seen = λ x. seen x (cases-bool (ltb x mark));
+          seen = λ x. seen x (cases-bool (ltb x (wordOf mark)));
           waits = λ e. rw (below l address refl);
           within = sound .waits;
-          unreadable = λ w. ap (λ b. cond (ltb w mark) b (two .unreadable w)) (h .unreadable w);
-          unwritable = λ w. ap (λ b. cond (ltb w mark) b (two .unwritable w)) (h .unwritable w);
+          unreadable = λ w. ap (λ b. cond (ltb w (wordOf mark)) b (two .unreadable w)) (h .unreadable w);
+          unwritable = λ w. ap (λ b. cond (ltb w (wordOf mark)) b (two .unwritable w)) (h .unwritable w);
           longest = ap (λ n. max n (two .longest)) (h .longest);
         }) h
     where
-      seen : (x : ℕ) → (ltb x mark ≡ true) ⊎ (ltb x mark ≡ false) → ((x′ : ℕ) × Stands (split mark one two) (split mark one′ two) one one′ address address x x′) ⊎ Beside (split mark one two) (split mark one′ two) address x
+      seen : (x : ℕ) → (ltb x (wordOf mark) ≡ true) ⊎ (ltb x (wordOf mark) ≡ false) → ((x′ : ℕ) × Stands (split mark one two) (split mark one′ two) one one′ address address x x′) ⊎ Beside (split mark one two) (split mark one′ two) address x
       seen x (inl t) = inl (x, record { before = rw t; after = rw t; there = λ e. omega arith; back = λ e. e })
       seen x (inr f) = inr (record { stays = rw f; apart = λ e. both-ways _ f (below l x e) })
 
-  second-asked : (one two two′ : Meaning) → Sound (split mark one two′) → mark ≤ address → {a : Answer} → Answers two (request address y) a two′ → Answers (split mark one two) (request address y) a (split mark one two′)
+  second-asked : (one two two′ : Meaning) → Sound (split mark one two′) → wordOf mark ≤ address → {a : Answer} → Answers two (request address y) a two′ → Answers (split mark one two) (request address y) a (split mark one two′)
   second-asked one two two′ sound l h =
       layer (
         record {
@@ -72,27 +72,27 @@ module _ (mark : ℕ) (whole : mark % 4 ≡ 0) (address : ℕ) (y : Action) wher
                 low = refl;
                 bytes = λ i s. rw (above l (wordOf address + i) (omega arith));
               };
-          seen = λ x. seen x (cases-bool (ltb x mark));
+          seen = λ x. seen x (cases-bool (ltb x (wordOf mark)));
           waits = λ e. rw (above l address refl);
           within = sound .waits;
-          unreadable = λ w. ap (cond (ltb w mark) (one .unreadable w)) (h .unreadable w);
-          unwritable = λ w. ap (cond (ltb w mark) (one .unwritable w)) (h .unwritable w);
+          unreadable = λ w. ap (cond (ltb w (wordOf mark)) (one .unreadable w)) (h .unreadable w);
+          unwritable = λ w. ap (cond (ltb w (wordOf mark)) (one .unwritable w)) (h .unwritable w);
           longest = ap (max (one .longest)) (h .longest);
         }) h
     where
-      seen : (x : ℕ) → (ltb x mark ≡ true) ⊎ (ltb x mark ≡ false) → ((x′ : ℕ) × Stands (split mark one two) (split mark one two′) two two′ address address x x′) ⊎ Beside (split mark one two) (split mark one two′) address x
+      seen : (x : ℕ) → (ltb x (wordOf mark) ≡ true) ⊎ (ltb x (wordOf mark) ≡ false) → ((x′ : ℕ) × Stands (split mark one two) (split mark one two′) two two′ address address x x′) ⊎ Beside (split mark one two) (split mark one two′) address x
       seen x (inl t) = inr (record { stays = rw t; apart = λ e. both-ways _ (above l x e) t })
       seen x (inr f) = inl (x, record { before = rw f; after = rw f; there = λ e. omega arith; back = λ e. e })
 
 module _ {A B : Type 0} {meansA : A → Meaning} {meansB : B → Meaning} {stepsA : A → Request → Answer → A → Type 0} {stepsB : B → Request → Answer → B → Type 0} (keepsA : Keeps meansA stepsA) (keepsB : Keeps meansB stepsB) where
-  pub split-tells : (mark : ℕ) → mark % 4 ≡ 0 → (s : A) (t : B) (q : Request) (a : Answer) (mark′ : ℕ) (s′ : A) (t′ : B) → SplitSteps stepsA stepsB mark s t q a mark′ s′ t′ → Answers (split mark (meansA s) (meansB t)) q a (split mark′ (meansA s′) (meansB t′))
-  split-tells mark whole s t q a mark′ s′ t′ h =
-      subst (λ k. Answers (split mark (meansA s) (meansB t)) q a (split k (meansA s′) (meansB t′))) (sym (h .0)) (go (ltb (q .address) mark) refl (h .1))
+  pub split-tells : (mark : ℕ) (s : A) (t : B) (q : Request) (a : Answer) (mark′ : ℕ) (s′ : A) (t′ : B) → SplitSteps stepsA stepsB mark s t q a mark′ s′ t′ → Answers (split mark (meansA s) (meansB t)) q a (split mark′ (meansA s′) (meansB t′))
+  split-tells mark s t q a mark′ s′ t′ h =
+      subst (λ k. Answers (split mark (meansA s) (meansB t)) q a (split k (meansA s′) (meansB t′))) (sym (h .0)) (go (ltb (q .address) (wordOf mark)) refl (h .1))
     where
-      go : (b : Bool) → ltb (q .address) mark ≡ b → When b (stepsA s q a s′ × (t′ ≡ t)) (stepsB t q a t′ × (s′ ≡ s)) → Answers (split mark (meansA s) (meansB t)) q a (split mark (meansA s′) (meansB t′))
+      go : (b : Bool) → ltb (q .address) (wordOf mark) ≡ b → When b (stepsA s q a s′ × (t′ ≡ t)) (stepsB t q a t′ × (s′ ≡ s)) → Answers (split mark (meansA s) (meansB t)) q a (split mark (meansA s′) (meansB t′))
       go true e k =
           subst (λ u. Answers (split mark (meansA s) (meansB t)) q a (split mark (meansA s′) (meansB u))) (sym (k .1))
-          (first-asked mark whole (q .address) (q .action) (meansA s) (meansA s′) (meansB t) (split-sound mark _ _ (keepsA .sound s′) (keepsB .sound t)) (ltb-true _ _ e) (keepsA .tells s q a s′ (k .0)))
+          (first-asked mark (q .address) (q .action) (meansA s) (meansA s′) (meansB t) (split-sound mark _ _ (keepsA .sound s′) (keepsB .sound t)) (ltb-true _ _ e) (keepsA .tells s q a s′ (k .0)))
       go false e k =
           subst (λ u. Answers (split mark (meansA s) (meansB t)) q a (split mark (meansA u) (meansB t′))) (sym (k .1))
-          (second-asked mark whole (q .address) (q .action) (meansA s) (meansB t) (meansB t′) (split-sound mark _ _ (keepsA .sound s) (keepsB .sound t′)) (ltb-false _ _ e) (keepsB .tells t q a t′ (k .0)))
+          (second-asked mark (q .address) (q .action) (meansA s) (meansB t) (meansB t′) (split-sound mark _ _ (keepsA .sound s) (keepsB .sound t′)) (ltb-false _ _ e) (keepsB .tells t q a t′ (k .0)))

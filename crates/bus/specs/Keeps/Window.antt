@@ -10,7 +10,7 @@ use Rattle.std.proofs.shelf.Tests.{both-ways, cases-bool, cases-order, false≢
 use Rattle.bus.specs.Keeps.Layer.{Beside, Stands, layer, request}
 use Rattle.bus.specs.Meaning.{Answers, Keeps, Meaning, Sound, after, answer}
 use Rattle.bus.specs.Request.{wordOf}
-use Rattle.bus.specs.Window.{WindowSteps, onto, window}
+use Rattle.bus.specs.Window.{WindowSteps, end, onto, window}
 use Rattle.bus.specs.declared.request.Action.{Action}
 use Rattle.bus.specs.declared.request.Action.the-variants as action
 use Rattle.bus.specs.declared.request.Answer.{Answer}
@@ -25,24 +25,24 @@ or-zero P false n h z = z
 pub window-sound : (base limit : ℕ) (m : Meaning) → Sound m → Sound (window base limit m)
 window-sound base limit m h =
     record {
-      bytes = λ x. or-zero (λ n. n < 256) (ltb x limit) (m .byte (onto base x)) (h .bytes (onto base x)) (omega arith);
-      waits = λ x. or-zero (λ n. n ≤ m .longest) (ltb (x .address) limit) _ (h .waits _) (omega arith);
+      bytes = λ x. or-zero (λ n. n < 256) (ltb x (end limit)) (m .byte (onto base x)) (h .bytes (onto base x)) (omega arith);
+      waits = λ x. or-zero (λ n. n ≤ m .longest) (ltb (x .address) (end limit)) _ (h .waits _) (omega arith);
       longest = h .longest;
     }
 
 -- no two addresses of a window stand for one
 one-to-one : (base x y : ℕ) → x < 2 ^ 32 → y < 2 ^ 32 → onto base x ≡ onto base y → x ≡ y
-one-to-one base x y h k e = go (cases-order ((base + x) / 2 ^ 32) ((base + y) / 2 ^ 32))
+one-to-one base x y h k e = go (cases-order ((wordOf base + x) / 2 ^ 32) ((wordOf base + y) / 2 ^ 32))
   where
-    go : ((base + x) / 2 ^ 32 ≡ (base + y) / 2 ^ 32) ⊎ (((base + x) / 2 ^ 32 < (base + y) / 2 ^ 32) ⊎ ((base + y) / 2 ^ 32 < (base + x) / 2 ^ 32)) → x ≡ y
+    go : ((wordOf base + x) / 2 ^ 32 ≡ (wordOf base + y) / 2 ^ 32) ⊎ (((wordOf base + x) / 2 ^ 32 < (wordOf base + y) / 2 ^ 32) ⊎ ((wordOf base + y) / 2 ^ 32 < (wordOf base + x) / 2 ^ 32)) → x ≡ y
     go (inl l) = omega arith
     go (inr (inl l)) = omega arith
     go (inr (inr l)) = omega arith
 
-module _ (base limit : ℕ) (based : base % 4 ≡ 0) (whole : limit % 4 ≡ 0) (short : limit ≤ 2 ^ 32) (address : ℕ) where
+module _ (base limit address : ℕ) where
   -- the limit parts no word
-  below : address < limit → (x : ℕ) → wordOf x ≡ wordOf address → ltb x limit ≡ true
-  below l x e = lt-ltb x limit (omega arith)
+  below : address < end limit → (x : ℕ) → wordOf x ≡ wordOf address → ltb x (end limit) ≡ true
+  below l x e = lt-ltb x (end limit) (omega arith)
 
   -- words are moved whole
   moves : (x : ℕ) → wordOf (onto base x) ≡ onto base (wordOf x)
@@ -51,7 +51,7 @@ module _ (base limit : ℕ) (based : base % 4 ≡ 0) (whole : limit % 4 ≡ 0) (
   moves-within : (x i : ℕ) → i < 4 → onto base (wordOf x + i) ≡ wordOf (onto base x) + i
   moves-within x i h = omega arith
 
-  asked : (m m′ : Meaning) (y : Action) → Sound m′ → address < limit → {a : Answer} → Answers m (request (onto base address) y) a m′ → Answers (window base limit m) (request address y) a (window base limit m′)
+  asked : (m m′ : Meaning) (y : Action) → Sound m′ → address < end limit → {a : Answer} → Answers m (request (onto base address) y) a m′ → Answers (window base limit m) (request address y) a (window base limit m′)
   asked m m′ y sound l h =
       layer (
         record {
@@ -63,17 +63,17 @@ module _ (base limit : ℕ) (based : base % 4 ≡ 0) (whole : limit % 4 ≡ 0) (
                 low = omega arith;
                 bytes = λ i s. rw (below l (wordOf address + i) (omega arith)) (ap (m .byte) (moves-within address i s));
               };
-          seen = λ x. seen x (cases-bool (ltb x limit));
+          seen = λ x. seen x (cases-bool (ltb x (end limit)));
           waits = λ e. rw (below l address refl);
           within = window-sound base limit m′ sound .waits;
-          unreadable = λ w. ap (λ b. cond (ltb w limit) b true) (h .unreadable (onto base w));
-          unwritable = λ w. ap (λ b. cond (ltb w limit) b true) (h .unwritable (onto base w));
+          unreadable = λ w. ap (λ b. cond (ltb w (end limit)) b true) (h .unreadable (onto base w));
+          unwritable = λ w. ap (λ b. cond (ltb w (end limit)) b true) (h .unwritable (onto base w));
           longest = h .longest;
         }) h
     where
-      seen : (x : ℕ) → (ltb x limit ≡ true) ⊎ (ltb x limit ≡ false) → ((x′ : ℕ) × Stands (window base limit m) (window base limit m′) m m′ address (onto base address) x x′) ⊎ Beside (window base limit m) (window base limit m′) address x
+      seen : (x : ℕ) → (ltb x (end limit) ≡ true) ⊎ (ltb x (end limit) ≡ false) → ((x′ : ℕ) × Stands (window base limit m) (window base limit m′) m m′ address (onto base address) x x′) ⊎ Beside (window base limit m) (window base limit m′) address x
       seen x (inl t) =
-          let k : x < limit = ltb-true x limit t in
+          let k : x < end limit = ltb-true x (end limit) t in
           let from : x ≡ wordOf address + x % 4 → onto base x ≡ wordOf (onto base address) + x % 4 = λ e. ap (onto base) e ∙ moves-within address (x % 4) (omega arith) in
           inl (onto base x, record {
             before = rw t;
@@ -83,18 +83,18 @@ module _ (base limit : ℕ) (based : base % 4 ≡ 0) (whole : limit % 4 ≡ 0) (
           })
       seen x (inr f) = inr (record { stays = rw f; apart = λ e. both-ways _ f (below l x e) })
 
-  above : limit ≤ address → (x : ℕ) → wordOf x ≡ wordOf address → ltb x limit ≡ false
-  above l x e = le-ltb x limit (omega arith)
+  above : end limit ≤ address → (x : ℕ) → wordOf x ≡ wordOf address → ltb x (end limit) ≡ false
+  above l x e = le-ltb x (end limit) (omega arith)
 
-  refuses : (m : Meaning) (y : Action) → limit ≤ address → BusError ≡ answer (window base limit m) (request address y)
+  refuses : (m : Meaning) (y : Action) → end limit ≤ address → BusError ≡ answer (window base limit m) (request address y)
   refuses m action.Read l = rw (above l address refl, above l (wordOf address) (omega arith))
   refuses m (action.Write w d) l = rw (above l address refl, above l (wordOf address) (omega arith))
 
-  leaves : (m : Meaning) (y : Action) → limit ≤ address → (x : ℕ) → window base limit m .byte x ≡ after (window base limit m) (request address y) x
+  leaves : (m : Meaning) (y : Action) → end limit ≤ address → (x : ℕ) → window base limit m .byte x ≡ after (window base limit m) (request address y) x
   leaves m action.Read l x = rw (above l address refl, above l (wordOf address) (omega arith))
   leaves m (action.Write w d) l x = rw (above l address refl, above l (wordOf address) (omega arith))
 
-  refused : (m : Meaning) (y : Action) → Sound m → limit ≤ address → Answers (window base limit m) (request address y) BusError (window base limit m)
+  refused : (m : Meaning) (y : Action) → Sound m → end limit ≤ address → Answers (window base limit m) (request address y) BusError (window base limit m)
   refused m y sound l =
       record {
         answered = refuses m y l;
@@ -107,13 +107,13 @@ module _ (base limit : ℕ) (based : base % 4 ≡ 0) (whole : limit % 4 ≡ 0) (
       }
 
 module _ {A : Type 0} {means : A → Meaning} {steps : A → Request → Answer → A → Type 0} (keeps : Keeps means steps) where
-  pub window-tells : (base limit : ℕ) → base % 4 ≡ 0 → limit % 4 ≡ 0 → limit ≤ 2 ^ 32 → (s : A) (q : Request) (a : Answer) (base′ limit′ : ℕ) (s′ : A) → WindowSteps steps base limit s q a base′ limit′ s′ → Answers (window base limit (means s)) q a (window base′ limit′ (means s′))
-  window-tells base limit based whole short s q a base′ limit′ s′ h =
-      subst₂ (λ b l. Answers (window base limit (means s)) q a (window b l (means s′))) (sym (h .0)) (sym (h .1)) (go (ltb (q .address) limit) refl (h .2))
+  pub window-tells : (base limit : ℕ) (s : A) (q : Request) (a : Answer) (base′ limit′ : ℕ) (s′ : A) → WindowSteps steps base limit s q a base′ limit′ s′ → Answers (window base limit (means s)) q a (window base′ limit′ (means s′))
+  window-tells base limit s q a base′ limit′ s′ h =
+      subst₂ (λ b l. Answers (window base limit (means s)) q a (window b l (means s′))) (sym (h .0)) (sym (h .1)) (go (ltb (q .address) (end limit)) refl (h .2))
     where
-      go : (b : Bool) → ltb (q .address) limit ≡ b → When b (steps s (request (onto base (q .address)) (q .action)) a s′) ((a ≡ BusError) × (s′ ≡ s)) → Answers (window base limit (means s)) q a (window base limit (means s′))
+      go : (b : Bool) → ltb (q .address) (end limit) ≡ b → When b (steps s (request (onto base (q .address)) (q .action)) a s′) ((a ≡ BusError) × (s′ ≡ s)) → Answers (window base limit (means s)) q a (window base limit (means s′))
       go true e k =
-          asked base limit based whole short (q .address) (means s) (means s′) (q .action) (keeps .sound s′) (ltb-true _ _ e) (keeps .tells s (request (onto base (q .address)) (q .action)) a s′ k)
+          asked base limit (q .address) (means s) (means s′) (q .action) (keeps .sound s′) (ltb-true _ _ e) (keeps .tells s (request (onto base (q .address)) (q .action)) a s′ k)
       go false e k =
           subst₂ (λ x t. Answers (window base limit (means s)) q x (window base limit (means t))) (sym (k .0)) (sym (k .1))
-          (refused base limit based whole short (q .address) (means s) (q .action) (keeps .sound s) (ltb-false _ _ e))
+          (refused base limit (q .address) (means s) (q .action) (keeps .sound s) (ltb-false _ _ e))
