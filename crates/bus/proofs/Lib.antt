@@ -1,2 +1,1 @@
-mod Stored
 mod Waits

@@ -4,16 +4,19 @@ use mathlib.Core.Path.{_≡_, refl, sym, ap, subst, _∙_}
 use Prim.Native.Nat.{ℕ, zero, suc, _+_, _≤_, _<_}
 use native.Mathlib.Omega.{arith}
 use lib.Dec.{ltb}
+use Rattle.std.specs.declared.option.Option.the-variants.{Some, None}
+use Rattle.std.specs.declared.result.Result.{Result}
 use Rattle.std.specs.declared.result.Result.the-variants.{Ok, Err}
 use Rattle.std.proofs.shelf.Tests.{ltb-false}
 use Rattle.bus.specs.Meaning.{Answers, Keeps, Meaning, after, answer, carried, refused, stalled, written}
 use Rattle.bus.specs.Request.{accessOf, wordOf}
-use Rattle.bus.specs.Settled.{Settles, Waited, outcome}
+use Rattle.bus.specs.Settled.{Settles, Waited, ending}
 use Rattle.bus.specs.declared.request.Action.{Action}
 use Rattle.bus.specs.declared.request.Action.the-variants as action
 use Rattle.bus.specs.declared.request.Answer.{Answer}
 use Rattle.bus.specs.declared.request.Answer.the-variants.{Wait, BusError, Done}
 use Rattle.bus.specs.declared.request.Request.{Request}
+use Rattle.bus.specs.declared.settle.BusFault.{BusFault}
 
 -- a meaning after n waits of a request
 pub record Kept (m : Meaning) (q : Request) (n : ℕ) (m′ : Meaning) : Type 0 where
@@ -94,14 +97,14 @@ module _ {S : Type 0} {means : S → Meaning} {steps : S → Request → Answer 
   bounded q n s t h = omega (arith, waited q n s t h .waits, keeps .sound s .waits (accessOf q))
 
   module _ (q : Request) (n : ℕ) (s u t : S) (h : Waited steps q n s u) where
-    pub ends-in-fault : steps u q BusError t → Settles means steps s q (record { waits = n; outcome = Err (record { address = q .address }) }) t
-    ends-in-fault k =
+    in-fault : steps u q BusError t → Settles means steps s q (record { waits = n; outcome = Err (record { address = q .address }) }) t
+    in-fault k =
         let w = waited q n s u h in
         let a = keeps .tells u q BusError t k in
         let e = refused-at-error (stalled (means u) q) (refused (means u) q) (carried (means u) q) (a .answered) in
         let r : refused (means s) q ≡ true = sym (same-refused (means s) (means u) q n w) ∙ e .1 in
         record {
-          asked = (u, h, k);
+          asked = (u, BusError, h, k, refl);
           waits = ended w (e .0);
           ends = rw r;
           bytes = λ x. a .bytes x ∙ rw (e .0, e .1, r) (w .bytes x);
@@ -110,14 +113,14 @@ module _ {S : Type 0} {means : S → Meaning} {steps : S → Request → Answer 
           longest = a .longest ∙ w .longest;
         }
 
-    pub ends-in-done : (word : ℕ) → steps u q (Done word) t → Settles means steps s q (record { waits = n; outcome = Ok word }) t
-    ends-in-done word k =
+    in-done : (word : ℕ) → steps u q (Done word) t → Settles means steps s q (record { waits = n; outcome = Ok word }) t
+    in-done word k =
         let w = waited q n s u h in
         let a = keeps .tells u q (Done word) t k in
         let e = carried-at-done (stalled (means u) q) (refused (means u) q) (carried (means u) q) word (a .answered) in
         let r : refused (means s) q ≡ false = sym (same-refused (means s) (means u) q n w) ∙ e .1 in
         record {
-          asked = (u, h, k);
+          asked = (u, Done word, h, k, refl);
           waits = ended w (e .0);
           ends = rw r (ap Ok (e .2 ∙ same-carried (means s) (means u) q n w));
           bytes = λ x. a .bytes x ∙ rw (e .0, e .1, r) (same-written (means s) (means u) q n w x);
@@ -125,3 +128,15 @@ module _ {S : Type 0} {means : S → Meaning} {steps : S → Request → Answer 
           unwritable = λ x. a .unwritable x ∙ w .unwritable x;
           longest = a .longest ∙ w .longest;
         }
+
+    -- a request ends with the first answer that is no wait
+    pub ends : (a : Answer) (o : Result ℕ BusFault) → steps u q a t → Some o ≡ ending q a → Settles means steps s q (record { waits = n; outcome = o }) t
+    ends Wait o k e = let z : _≡_ {A = ℕ} 0 1 = cc in absurd (omega arith)
+    ends BusError o k e = let i : Err (record { address = q .address }) ≡ o = cc in subst (λ x. Settles means steps s q (record { waits = n; outcome = x }) t) i (in-fault k)
+    ends (Done word) o k e = let i : Ok word ≡ o = cc in subst (λ x. Settles means steps s q (record { waits = n; outcome = x }) t) i (in-done word k)
+
+  -- a request that has not ended was answered by wait
+  pub goes-on : (q : Request) (n : ℕ) (s u t : S) (a : Answer) → Waited steps q n s u → steps u q a t → None ≡ ending q a → Waited steps q (suc n) s t
+  goes-on q n s u t Wait h k e = (u, h, k)
+  goes-on q n s u t BusError h k e = let z : _≡_ {A = ℕ} 0 1 = cc in absurd (omega arith)
+  goes-on q n s u t (Done word) h k e = let z : _≡_ {A = ℕ} 0 1 = cc in absurd (omega arith)

@@ -2,6 +2,8 @@
 use mathlib.Core.Bool.{Bool, cond}
 use mathlib.Core.Path.{_≡_}
 use Prim.Native.Nat.{ℕ, zero, suc}
+use Rattle.std.specs.declared.option.Option.{Option}
+use Rattle.std.specs.declared.option.Option.the-variants.{Some, None}
 use Rattle.std.specs.declared.result.Result.{Result}
 use Rattle.std.specs.declared.result.Result.the-variants.{Ok, Err}
 use Rattle.bus.specs.Meaning.{Meaning, carried, refused, written}
@@ -21,15 +23,16 @@ Waited {S} steps q (suc n) s t = (u : S) × Waited steps q n s u × steps u q Wa
 abbrev pub outcome : Meaning → Request → Result ℕ BusFault
 outcome m q = cond (refused m q) (Err (record { address = q .address })) (Ok (carried m q))
 
--- the answer behind an outcome
-abbrev pub finished : Result ℕ BusFault → Answer
-finished (Ok w) = Done w
-finished (Err f) = BusError
+-- how an answer ends a request: a wait does not
+abbrev pub ending : Request → Answer → Option (Result ℕ BusFault)
+ending q Wait = None
+ending q BusError = Some (Err (record { address = q .address }))
+ending q (Done w) = Some (Ok w)
 
 -- a request waited out from s to t: it was asked once more than it had waits, and its end, the bytes after it and
 -- what never changes follow from the meaning before, whatever waits other requests were given
 pub record Settles {S : Type 0} (means : S → Meaning) (steps : S → Request → Answer → S → Type 0) (s : S) (q : Request) (r : Settled) (t : S) : Type 0 where
-  pub asked : (u : S) × Waited steps q (r .waits) s u × steps u q (finished (r .outcome)) t
+  pub asked : (u : S) × (a : Answer) × Waited steps q (r .waits) s u × steps u q a t × (ending q a ≡ Some (r .outcome))
   pub waits : r .waits ≡ means s .waits (accessOf q)
   pub ends : r .outcome ≡ outcome (means s) q
   pub bytes : (address : ℕ) → means t .byte address ≡ cond (refused (means s) q) (means s .byte address) (written (means s) q address)

@@ -1,7 +1,7 @@
 //! What is asked of a memory, and what it answers.
 
 ghost use mathlib.Core.Path.{_≡_};
-ghost use Rattle.bus.specs.Request.{accessOf, kindOf, wordOf};
+ghost use Rattle.bus.specs.Request.{accessOf, kindOf, same, wordOf};
 
 /// The name of the word that an address lies in: the address with its two low bits cleared.
 pub fn word_of(address: u32) -> u32
@@ -11,7 +11,7 @@ pub fn word_of(address: u32) -> u32
 }
 
 /// How many bytes a write changes: 4, 2 or 1.
-#[derive(Clone, Copy, PartialEq, Eq, Debug)]
+#[derive(Clone, Copy, PartialEq, Eq)]
 pub enum Width {
     Word,
     Half,
@@ -19,14 +19,14 @@ pub enum Width {
 }
 
 /// The four kinds of request; a read always asks for a word.
-#[derive(Clone, Copy, PartialEq, Eq, Debug)]
+#[derive(Clone, Copy, PartialEq, Eq)]
 pub enum Kind {
     Read,
     Write(Width),
 }
 
 /// What a request does at its address. A half or a byte is taken from the low bits of the data.
-#[derive(Clone, Copy, PartialEq, Eq, Debug)]
+#[derive(Clone, Copy)]
 pub enum Action {
     Read,
     Write(Width, u32),
@@ -44,29 +44,41 @@ impl Action {
     }
 }
 
-#[derive(Clone, Copy, PartialEq, Eq, Debug)]
+#[derive(Clone, Copy)]
 pub struct Request {
     pub address: u32,
     pub action: Action,
 }
 
-/// A request without its data: two requests are the same when their accesses are equal.
-#[derive(Clone, Copy, PartialEq, Eq, Debug)]
+/// A request without its data.
+#[derive(Clone, Copy)]
 pub struct Access {
     pub address: u32,
     pub kind: Kind,
+}
+
+impl Access {
+    /// Two requests are the same when kind and address agree.
+    pub fn same(self, other: Access) -> bool
+        ensures { λ r. ⌜ r ≡ same self other ⌝ }
+    {
+        self.address == other.address && self.kind == other.kind
+    }
 }
 
 impl Request {
     pub fn access(self) -> Access
         ensures { λ r. ⌜ r ≡ accessOf self ⌝ }
     {
-        Access { address: self.address, kind: self.action.kind() }
+        Access {
+            address: self.address,
+            kind: self.action.kind(),
+        }
     }
 }
 
 /// `Done` carries the word that a read found, and 0 after a write.
-#[derive(Clone, Copy, PartialEq, Eq, Debug)]
+#[derive(Clone, Copy, PartialEq, Eq)]
 pub enum Answer {
     Wait,
     BusError,

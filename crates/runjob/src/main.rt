@@ -1,4 +1,4 @@
-//! Runs a fixed list of requests over the pile that jobs run on, and prints what came of each.
+//! Asks a fixed list of requests of the pile that jobs run on, and prints what came of each.
 
 mod pile;
 mod script;

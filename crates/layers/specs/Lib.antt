@@ -1,0 +1,4 @@
+pub mod Delay
+pub mod Keeps
+pub mod Split
+pub mod Window
