@@ -1,5 +1,13 @@
 //! The microprogram: its rows, the operation box, and one cycle as functions of values.
 
+pub mod chip;
+pub mod cycle;
+pub mod fault;
+pub mod faults;
+pub mod ledger;
+pub mod operands;
 pub mod operation;
+pub mod registers;
 pub mod row;
 pub mod rows;
+pub mod sequencing;
