@@ -1,1 +1,2 @@
+mod Ends
 mod Integers

@@ -1,3 +1,4 @@
+pub mod Bounds
 pub mod Cycle
 pub mod Fault
 pub mod Ledger

@@ -11,7 +11,25 @@ use mir.Val.{toZ}
 use Rattle.std.specs.Numbers.{remEuclid}
 use Rattle.microprogram.specs.declared.operation.Operation.{Operation}
 use Rattle.microprogram.specs.declared.operation.Operation.the-variants.{
-  Sum, Dif, And, Or, Xor, Nor, Sll, Srl, Sra, Sltu, Slt, Mul, Muh, Msl, Msh, Duq, Dur, Dsq, Dsr,
+  Sum,
+  Dif,
+  And,
+  Or,
+  Xor,
+  Nor,
+  Sll,
+  Srl,
+  Sra,
+  Sltu,
+  Slt,
+  Mul,
+  Muh,
+  Msl,
+  Msh,
+  Duq,
+  Dur,
+  Dsq,
+  Dsr,
 }
 
 -- the integer that a word stands for in two's complement: from 2 ^ 31 up it is 2 ^ 32 less

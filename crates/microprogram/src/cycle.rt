@@ -159,7 +159,8 @@ impl Chip {
         let before = self.registers.flag;
         let new = faults::found(row.detection, self.registers.sr, res, overflow, answer);
         let flag = faults::flagged(row.detection, before, new);
-        self.row = self.registers.following(row.sequencing, row.amic, res, zero, lines, flag.is_some());
+        self.row = self.registers
+            .following(row.sequencing, row.amic, res, zero, lines, flag.is_some());
         if saves(row.destination, row.x) && faults::opens(row.detection, before, new) {
             self.ledger.note(self.registers.cr / 4, res);
         }

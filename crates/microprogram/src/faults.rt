@@ -43,7 +43,13 @@ fn refused(answer: Option<Answer>) -> bool
 }
 
 /// The fault that a row finds.
-pub fn found(detection: Detection, sr: u32, res: u32, overflow: bool, answer: Option<Answer>) -> Option<Fault>
+pub fn found(
+    detection: Detection,
+    sr: u32,
+    res: u32,
+    overflow: bool,
+    answer: Option<Answer>,
+) -> Option<Fault>
     ensures { λ r. ⌜ r ≡ found detection sr res overflow answer ⌝ }
 {
     match detection {
@@ -102,7 +108,12 @@ pub fn opens(detection: Detection, before: Option<Fault>, new: Option<Fault>) ->
 }
 
 /// Whether the destination may be written: a fault of this very cycle does not stop AD.
-pub fn allowed(destination: Destination, detection: Detection, before: Option<Fault>, new: Option<Fault>) -> bool
+pub fn allowed(
+    destination: Destination,
+    detection: Detection,
+    before: Option<Fault>,
+    new: Option<Fault>,
+) -> bool
     ensures { λ r. ⌜ r ≡ allowed destination detection before new ⌝ }
 {
     match destination {

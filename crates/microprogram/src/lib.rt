@@ -1,5 +1,6 @@
 //! The microprogram: its rows, the operation box, and one cycle as functions of values.
 
+pub mod bounds;
 pub mod chip;
 pub mod cycle;
 pub mod fault;

@@ -44,7 +44,11 @@ fn extended_immediate(ir: u32) -> u32
     ensures { λ r. ⌜ r ≡ extended ir ⌝ }
 {
     let immediate = ir % 65536;
-    if immediate < 32768 { immediate } else { immediate + 0xFFFF_0000 }
+    if immediate < 32768 {
+        immediate
+    } else {
+        immediate + 0xFFFF_0000
+    }
 }
 
 impl Registers {

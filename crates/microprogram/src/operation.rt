@@ -38,7 +38,9 @@ fn shift_right_signed(x: u32, y: u32) -> u32
 fn signed_product_low(x: u32, y: u32) -> u32
     ensures { λ r. ⌜ r ≡ result Msl x y ⌝ }
 {
-    x.cast_signed().wrapping_mul(y.cast_signed()).cast_unsigned()
+    x.cast_signed()
+        .wrapping_mul(y.cast_signed())
+        .cast_unsigned()
 }
 
 fn signed_product_high(x: u32, y: u32) -> u32
@@ -54,7 +56,9 @@ fn signed_quotient(x: u32, y: u32) -> u32
     if y == 0 {
         return u32::MAX;
     }
-    x.cast_signed().wrapping_div(y.cast_signed()).cast_unsigned()
+    x.cast_signed()
+        .wrapping_div(y.cast_signed())
+        .cast_unsigned()
 }
 
 fn signed_remainder(x: u32, y: u32) -> u32
@@ -63,7 +67,9 @@ fn signed_remainder(x: u32, y: u32) -> u32
     if y == 0 {
         return x;
     }
-    x.cast_signed().wrapping_rem(y.cast_signed()).cast_unsigned()
+    x.cast_signed()
+        .wrapping_rem(y.cast_signed())
+        .cast_unsigned()
 }
 
 fn result(operation: Operation, x: u32, y: u32) -> u32

@@ -39,7 +39,15 @@ fn chosen(sr: u32, lines: u8, flag: bool) -> u16
 
 impl Registers {
     /// The address of the row that follows one with this SEQ and AMIC.
-    pub fn following(&self, sequencing: Sequencing, amic: u16, res: u32, zero: bool, lines: u8, flag: bool) -> u16
+    pub fn following(
+        &self,
+        sequencing: Sequencing,
+        amic: u16,
+        res: u32,
+        zero: bool,
+        lines: u8,
+        flag: bool,
+    ) -> u16
         ensures { λ r. ⌜ r ≡ following sequencing amic (held (now (self .entry))) res zero lines flag ⌝ }
     {
         let ir = self.ir;

@@ -21,5 +21,5 @@ returns c =
     let product = ap₂ _*ℤ_ (toZ-ofZ w64 a (record { sfits = c .from .ok }) ∙ same-a) (toZ-ofZ w64 b (record { sfits = c .from-2 .ok }) ∙ same-b) in
     ap (λ n. n / 4294967296)
     (c .cast-unsigned .ensures
-     ∙ simp product (ap (ofZ w64) (toZ-ofZ w64 (sx *ℤ sy) fits) ∙ residue-64 (sx *ℤ sy) fits)
-     ∙ ap₂ (λ u v. residue (u *ℤ v) 18446744073709551616) (c .cast-signed .ensures) (c .cast-signed-2 .ensures))
+    ∙ simp product (ap (ofZ w64) (toZ-ofZ w64 (sx *ℤ sy) fits) ∙ residue-64 (sx *ℤ sy) fits)
+    ∙ ap₂ (λ u v. residue (u *ℤ v) 18446744073709551616) (c .cast-signed .ensures) (c .cast-signed-2 .ensures))

@@ -13,5 +13,5 @@ returns c =
     let below : (c .args .x * c .args .y) % 2 ^ 32 < 2 ^ 32 = omega arith in
     c .cast-unsigned .ensures
     ∙ simp (c .cast-signed .ensures, c .cast-signed-2 .ensures)
-      (simp (ofZ-toZ w32 (c .args .x) p, ofZ-toZ w32 (c .args .y) q)
-       (ofZ-toZ w32 ((c .args .x * c .args .y) % 2 ^ 32) below ∙ product-low (c .args .x) (c .args .y) p q))
+    (simp (ofZ-toZ w32 (c .args .x) p, ofZ-toZ w32 (c .args .y) q)
+    (ofZ-toZ w32 ((c .args .x * c .args .y) % 2 ^ 32) below ∙ product-low (c .args .x) (c .args .y) p q))
