@@ -24,7 +24,7 @@ pub enum Fault {
 
 impl Fault {
     /// The code that CR and the ledger know the fault by; an interrupt has code 0.
-    pub fn code(self) -> u32
+    pub(crate) fn code(self) -> u32
         ensures { λ r. ⌜ r ≡ code self ⌝ }
     {
         match self {

@@ -43,7 +43,7 @@ fn refused(answer: Option<Answer>) -> bool
 }
 
 /// The fault that a row finds.
-pub fn found(
+pub(crate) fn found(
     detection: Detection,
     sr: u32,
     res: u32,
@@ -71,14 +71,18 @@ pub fn found(
 }
 
 /// Whether a row clears the flag; such a row is stopped by nothing.
-pub fn clears(detection: Detection) -> bool
+pub(crate) fn clears(detection: Detection) -> bool
     ensures { λ r. ⌜ r ≡ clears detection ⌝ }
 {
     matches!(detection, Detection::Clr)
 }
 
 /// The flag after a row that found `new`; one that is up stays, and no second one is raised.
-pub fn flagged(detection: Detection, before: Option<Fault>, new: Option<Fault>) -> Option<Fault>
+pub(crate) fn flagged(
+    detection: Detection,
+    before: Option<Fault>,
+    new: Option<Fault>,
+) -> Option<Fault>
     ensures { λ r. ⌜ r ≡ flagged detection before new ⌝ }
 {
     if clears(detection) {
@@ -101,14 +105,14 @@ fn stopping(new: Option<Fault>) -> bool
 }
 
 /// Whether the registers that software sees may be written.
-pub fn opens(detection: Detection, before: Option<Fault>, new: Option<Fault>) -> bool
+pub(crate) fn opens(detection: Detection, before: Option<Fault>, new: Option<Fault>) -> bool
     ensures { λ r. ⌜ r ≡ opens detection before new ⌝ }
 {
     clears(detection) || before.is_none() && !stopping(new)
 }
 
 /// Whether the destination may be written: a fault of this very cycle does not stop AD.
-pub fn allowed(
+pub(crate) fn allowed(
     destination: Destination,
     detection: Detection,
     before: Option<Fault>,

@@ -17,7 +17,7 @@ pub struct Ledger {
 }
 
 impl Ledger {
-    pub fn new() -> Ledger
+    pub(crate) fn new() -> Ledger
         ensures { λ r. ⌜ r .entries ≡ replicate 16 blank ⌝ }
     {
         Ledger {
@@ -26,7 +26,7 @@ impl Ledger {
     }
 
     /// One entry more of a code, whose four low bits count.
-    pub fn note(&mut self, code: u32, epc: u32)
+    pub(crate) fn note(&mut self, code: u32, epc: u32)
         ensures { λ _. ⌜ now (self .exit) .entries ≡ noted (code % 16) epc (now (self .entry) .entries) ⌝ }
     {
         let at = (code % 16) as usize;

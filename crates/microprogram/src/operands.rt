@@ -10,7 +10,7 @@ use super::row::OperandX;
 use super::row::OperandY;
 
 /// The general register that IR bits 25–21 name.
-pub fn rs(ir: u32) -> usize
+pub(crate) fn rs(ir: u32) -> usize
     ensures is { λ r. ⌜ r ≡ rs ir ⌝ }
     ensures below { λ r. ⌜ r < 32 ⌝ }
 {
@@ -18,7 +18,7 @@ pub fn rs(ir: u32) -> usize
 }
 
 /// The general register that IR bits 20–16 name.
-pub fn rt(ir: u32) -> usize
+pub(crate) fn rt(ir: u32) -> usize
     ensures is { λ r. ⌜ r ≡ rt ir ⌝ }
     ensures below { λ r. ⌜ r < 32 ⌝ }
 {
@@ -26,7 +26,7 @@ pub fn rt(ir: u32) -> usize
 }
 
 /// The general register that IR bits 15–11 name.
-pub fn rd(ir: u32) -> usize
+pub(crate) fn rd(ir: u32) -> usize
     ensures is { λ r. ⌜ r ≡ rd ir ⌝ }
     ensures below { λ r. ⌜ r < 32 ⌝ }
 {
@@ -52,7 +52,7 @@ fn extended_immediate(ir: u32) -> u32
 }
 
 impl Registers {
-    pub fn operand_x(&self, x: OperandX, lines: u8) -> u32
+    pub(crate) fn operand_x(&self, x: OperandX, lines: u8) -> u32
         ensures { λ r. ⌜ r ≡ operandX lines (now (self .entry) .dt) (held (now (self .entry))) x ⌝ }
     {
         match x {
@@ -74,7 +74,7 @@ impl Registers {
         }
     }
 
-    pub fn operand_y(&self, y: OperandY) -> u32
+    pub(crate) fn operand_y(&self, y: OperandY) -> u32
         ensures { λ r. ⌜ r ≡ operandY (now (self .entry) .dt) (held (now (self .entry))) y ⌝ }
     {
         match y {

@@ -21,7 +21,3 @@ pub struct Registers {
     pub flag: Option<Fault>,
     ghost zero: { getD general 0 0 ≡ 0 },
 }
-
-impl Registers {
-    pub const COUNT: usize = 42;
-}

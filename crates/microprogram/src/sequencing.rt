@@ -10,7 +10,7 @@ use super::registers::Registers;
 use super::row::Sequencing;
 
 /// SR bit 0 and some SR bit 10 + n are set with line n up.
-pub fn interrupting(sr: u32, lines: u8) -> bool
+pub(crate) fn interrupting(sr: u32, lines: u8) -> bool
     ensures { λ r. ⌜ r ≡ interrupting sr lines ⌝ }
 {
     sr % 2 == 1 && (sr / 1024 % 64) & u32::from(lines % 64) != 0
@@ -24,7 +24,7 @@ fn bit(n: u32, word: u32) -> u16
 }
 
 /// Whether a path ends with a row of this sequencing.
-pub fn ends(sequencing: Sequencing) -> bool
+pub(crate) fn ends(sequencing: Sequencing) -> bool
     ensures { λ r. ⌜ r ≡ ends sequencing ⌝ }
 {
     matches!(sequencing, Sequencing::Rie)
@@ -39,7 +39,7 @@ fn chosen(sr: u32, lines: u8, flag: bool) -> u16
 
 impl Registers {
     /// The address of the row that follows one with this SEQ and AMIC.
-    pub fn following(
+    pub(crate) fn following(
         &self,
         sequencing: Sequencing,
         amic: u16,

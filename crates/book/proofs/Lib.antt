@@ -1,0 +1,14 @@
+mod Arrive
+mod Branches
+mod Decode
+mod Entries
+mod Jumps
+mod Loads
+mod Longest
+mod Steps
+mod Stores
+mod Straight
+mod System
+mod Upto
+mod Walk
+mod Worked

@@ -1,0 +1,6 @@
+use Rattle.book.proofs.Longest.{longest}
+use Rattle.book.proofs.Steps.{steps-are-paths}
+use Rattle.book.proofs.law.longest_step.Needs as need
+
+pub returns : need.returns
+returns c = record { paths = steps-are-paths; longest = longest }

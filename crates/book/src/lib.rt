@@ -1,0 +1,3 @@
+//! The instruction book, and that each of its steps is a path of rows.
+
+pub mod law;
