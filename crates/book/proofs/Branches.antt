@@ -12,8 +12,8 @@ use Rattle.std.specs.declared.option.Option.the-variants.{None}
 use Rattle.book.specs.Book.{Book, Refusals, branches, done, fetches, linked, risen}
 use Rattle.book.specs.Instruction.{Instruction}
 use Rattle.book.specs.Path.{Fit, stand}
-use Rattle.book.proofs.Jumps.{branch, lands, put-small, stays, within}
-use Rattle.book.proofs.Walk.{Rows, ending, plus-nothing, row, split, walk, init, fetch, below, Reaches}
+use Rattle.book.proofs.Jumps.{branch, lands, put-small}
+use Rattle.book.proofs.Walk.{Rows, amid, ending, fetching, plus-nothing, row, split, walk, init, fetch, below, Reaches}
 use Rattle.microprogram.specs.Operation.{oneIf, signed}
 use Rattle.microprogram.specs.Registers.{Regs, put, reg, withAd}
 use Rattle.microprogram.specs.Rows.{rowAt, rows}
@@ -110,11 +110,11 @@ module _ (deny : Refusals) (lines : ℕ) (b : Book) (dt : ℕ) (fit : Fit b) whe
   abbrev left : ℕ → Rows
   left n = (n, fetch) ∷ []
 
-  goes : (n : ℕ) (h : Regs) (t : Bool) → t ≡ true → walk deny lines (gone n) (within b dt n None h) ≡ ending lines (fetches deny (branches b t h)) dt
+  goes : (n : ℕ) (h : Regs) (t : Bool) → t ≡ true → walk deny lines (gone n) (amid b h dt None n) ≡ ending lines (fetches deny (branches b t h)) dt
   goes n h t k = lands deny lines b dt h ((h .pc + distance (h .ir)) % 2 ^ 32) (below (h .pc + distance (h .ir))) ∙ ap (λ z. ending lines (fetches deny (branches b z h)) dt) (sym k)
 
-  leaves : (n : ℕ) (h : Regs) (t : Bool) → t ≡ false → walk deny lines (left n) (within b dt n None h) ≡ ending lines (fetches deny (branches b t h)) dt
-  leaves n h t k = stays deny lines b dt n h ∙ ap (λ z. ending lines (fetches deny (branches b z h)) dt) (sym k)
+  leaves : (n : ℕ) (h : Regs) (t : Bool) → t ≡ false → walk deny lines (left n) (amid b h dt None n) ≡ ending lines (fetches deny (branches b t h)) dt
+  leaves n h t k = fetching deny lines b h dt n ∙ ap (λ z. ending lines (fetches deny (branches b z h)) dt) (sym k)
 
   -- BEQ and BNE
   abbrev one : ℕ
@@ -133,10 +133,10 @@ module _ (deny : Refusals) (lines : ℕ) (b : Book) (dt : ℕ) (fit : Fit b) whe
   compares k a rest = (16, init) ∷ (256 + k * 4, row x.Rt y.C0 Sum r.Ad m.Nop e.Nop s.Next (256 + k * 4 + 1)) ∷ (256 + k * 4 + 1, row x.Rs y.Ad Dif r.Nop m.Nop e.Nop s.Nul a) ∷ rest
 
   compares-gone : (k a n : ℕ) (t : Bool) → t ≡ true → walk deny lines (compares k a (gone n)) (stand b dt 16 None) ≡ ending lines (fetches deny (branches b t (withAd other (risen b)))) dt
-  compares-gone k a n t h = ap (λ v. walk deny lines (gone n) (within b dt n None (withAd v (risen b)))) other-word ∙ goes n (withAd other (risen b)) t h
+  compares-gone k a n t h = ap (λ v. walk deny lines (gone n) (amid b (withAd v (risen b)) dt None n)) other-word ∙ goes n (withAd other (risen b)) t h
 
   compares-left : (k a n : ℕ) (t : Bool) → t ≡ false → walk deny lines (compares k a (left n)) (stand b dt 16 None) ≡ ending lines (fetches deny (branches b t (withAd other (risen b)))) dt
-  compares-left k a n t h = ap (λ v. walk deny lines (left n) (within b dt n None (withAd v (risen b)))) other-word ∙ leaves n (withAd other (risen b)) t h
+  compares-left k a n t h = ap (λ v. walk deny lines (left n) (amid b (withAd v (risen b)) dt None n)) other-word ∙ leaves n (withAd other (risen b)) t h
 
   pub branches-equal-taken : (o : opcode (g .ir) ≡ 4) (t : eqb (reg (risen b) (rs (g .ir))) (reg (risen b) (rt (g .ir))) ≡ true) → Reaches deny lines b dt 16 None 6 (done deny b Instruction.branchEqual (risen b))
   unfolding rows
@@ -282,7 +282,7 @@ module _ (deny : Refusals) (lines : ℕ) (b : Book) (dt : ℕ) (fit : Fit b) whe
         plain = refl;
         leads = (refl, refl, (ap (λ i. 256 + i * 4) o, refl, (h0, h1, (refl, h2, (then-turned a n at, h3, (refl, refl, (refl, refl, tt)))))));
         last = dt;
-        arrives = ap (λ v. walk deny lines (gone n) (within b dt n None (with-link v))) next-word ∙ goes n (with-link next) t k1;
+        arrives = ap (λ v. walk deny lines (gone n) (amid b (with-link v) dt None n)) next-word ∙ goes n (with-link next) t k1;
       }
 
   links-left : (c d a n : ℕ) (t : Bool) → opcode (g .ir) ≡ 1 → chosen ≡ c → rowAt c ≡ linking d → rowAt d ≡ tester a → turned a then ≡ n → rowAt n ≡ fetch → t ≡ false → Reaches deny lines b dt 16 None 5 (branches b t (with-link next))
@@ -294,7 +294,7 @@ module _ (deny : Refusals) (lines : ℕ) (b : Book) (dt : ℕ) (fit : Fit b) whe
         plain = refl;
         leads = (refl, refl, (ap (λ i. 256 + i * 4) o, refl, (h0, h1, (refl, h2, (then-turned a n at, h3, tt)))));
         last = dt;
-        arrives = ap (λ v. walk deny lines (left n) (within b dt n None (with-link v))) next-word ∙ leaves n (with-link next) t k1;
+        arrives = ap (λ v. walk deny lines (left n) (amid b (with-link v) dt None n)) next-word ∙ leaves n (with-link next) t k1;
       }
 
   pub branches-below-link-taken : (o : opcode (g .ir) ≡ 1) (w : bit 16 (g .ir) ≡ false) (l : bit 20 (g .ir) ≡ true) (t : ltZ (signed (reg (linked true (risen b)) (rs (g .ir)))) (pos 0) ≡ true) → Reaches deny lines b dt 16 None 7 (done deny b (Instruction.branchBelow true) (risen b))

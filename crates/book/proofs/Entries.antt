@@ -9,8 +9,7 @@ use Rattle.std.specs.declared.option.Option.the-variants.{Some, None}
 use Rattle.book.specs.Book.{Book, Event, Refusals, enters, fetches, made}
 use Rattle.book.specs.Instant.{World}
 use Rattle.book.specs.Path.{Fit, stand}
-use Rattle.book.proofs.System.{fetching}
-use Rattle.book.proofs.Walk.{Rows, ending, nothing-plus, plus-nothing, row, split, walk, fetch, Reaches}
+use Rattle.book.proofs.Walk.{Rows, ending, fetching, nothing-plus, plus-nothing, row, split, walk, fetch, Reaches}
 use Rattle.microprogram.specs.Fault.{code}
 use Rattle.microprogram.specs.Ledger.{noted}
 use Rattle.microprogram.specs.Registers.{Regs, withBar, withCr, withEpc, withPc, withSr}

@@ -15,7 +15,7 @@ use Rattle.book.specs.Book.{Book, Refusals, did, done, fetches, goesTo, met, r
 use Rattle.book.specs.Instruction.{Instruction}
 use Rattle.book.specs.Instant.{World}
 use Rattle.book.specs.Path.{Fit, stand}
-use Rattle.book.proofs.Walk.{Rows, ending, plus-nothing, row, split, walk, init, special, fetch, below, Reaches}
+use Rattle.book.proofs.Walk.{Rows, amid, ending, fetching, plus-nothing, row, split, walk, init, special, fetch, below, Reaches}
 use Rattle.microprogram.specs.Cycle.{misplaced, when}
 use Rattle.microprogram.specs.Registers.{Regs, put, reg, withAd, withPc}
 use Rattle.microprogram.specs.Rows.{rows}
@@ -31,29 +31,17 @@ use Rattle.microprogram.specs.declared.row.Row.{Row}
 use Rattle.microprogram.specs.declared.row.Sequencing.the-variants as s
 use Rattle.microprogram.specs.declared.row.Transfer.the-variants as m
 
--- a world within a step
-abbrev pub within : Book → ℕ → ℕ → Option Fault → Regs → World
-within b dt n flag g = record { state = record { regs = g; dt = dt; flag = flag; row = n; lines = b .lines; ledger = b .ledger }; bytes = b .bytes }
-
 abbrev pub branch : Row
 branch = row x.Ad y.C0 Sum r.Pc m.Nop e.Nop s.Next 15
 
 -- the world in which a target has come to AD
 abbrev pub landing : Book → ℕ → Regs → ℕ → World
-landing b dt g t = within b dt 31 (when (misplaced 4 (g .sr) t) f.Adel) (withAd t g)
-
-fetched-at : (deny : Refusals) (lines : ℕ) (b : Book) (dt n : ℕ) (g : Regs) (q : Bool) → deny .unreadable (wordOf (g .pc)) ≡ q → walk deny lines ((n, fetch) ∷ []) (within b dt n None g) ≡ ending lines (fetches deny (did b g)) dt
-fetched-at deny lines b dt n g true q = rw q
-fetched-at deny lines b dt n g false q = rw q
-
--- a step that leaves the registers as they are
-pub stays : (deny : Refusals) (lines : ℕ) (b : Book) (dt n : ℕ) (g : Regs) → walk deny lines ((n, fetch) ∷ []) (within b dt n None g) ≡ ending lines (fetches deny (did b g)) dt
-stays deny lines b dt n g = split (deny .unreadable (wordOf (g .pc))) (fetched-at deny lines b dt n g true) (fetched-at deny lines b dt n g false)
+landing b dt g t = amid b (withAd t g) dt (when (misplaced 4 (g .sr) t) f.Adel) 31
 
 arrives-if : (deny : Refusals) (lines : ℕ) (b : Book) (dt : ℕ) (g : Regs) (t : ℕ) → t < 2 ^ 32 → (bad : Bool) →
-    walk deny lines ((31, branch) ∷ (15, fetch) ∷ []) (within b dt 31 (when bad f.Adel) (withAd t g)) ≡ ending lines (fetches deny (cond bad (met b f.Adel (withAd t g)) (did b (withPc t (withAd t g))))) dt
+    walk deny lines ((31, branch) ∷ (15, fetch) ∷ []) (amid b (withAd t g) dt (when bad f.Adel) 31) ≡ ending lines (fetches deny (cond bad (met b f.Adel (withAd t g)) (did b (withPc t (withAd t g))))) dt
 arrives-if deny lines b dt g t h true = refl
-arrives-if deny lines b dt g t h false = ap (λ v. walk deny lines ((15, fetch) ∷ []) (within b dt 15 None (withPc v (withAd t g)))) (plus-nothing t h) ∙ stays deny lines b dt 15 (withPc t (withAd t g))
+arrives-if deny lines b dt g t h false = ap (λ v. walk deny lines ((15, fetch) ∷ []) (amid b (withPc v (withAd t g)) dt None 15)) (plus-nothing t h) ∙ fetching deny lines b (withPc t (withAd t g)) dt 15
 
 -- the rows after a target has come to AD
 pub lands : (deny : Refusals) (lines : ℕ) (b : Book) (dt : ℕ) (g : Regs) (t : ℕ) → t < 2 ^ 32 →
@@ -116,7 +104,7 @@ module _ (deny : Refusals) (lines : ℕ) (b : Book) (dt : ℕ) (fit : Fit b) whe
 
   jumps-link-register-walk : walk deny lines jumps-link-register-rows (stand b dt 16 None) ≡ ending lines (fetches deny (done deny b Instruction.jumpLinkRegister (risen b))) dt
   jumps-link-register-walk =
-      ap (λ v. walk deny lines ((544, row x.Rs y.C0 Sum r.Ad m.Nop e.If s.Next 31) ∷ after) (within b dt 544 None (with-link (rd (g .ir)) v))) next-word
+      ap (λ v. walk deny lines ((544, row x.Rs y.C0 Sum r.Ad m.Nop e.If s.Next 31) ∷ after) (amid b (with-link (rd (g .ir)) v) dt None 544)) next-word
       ∙ ap (λ t. walk deny lines after (landing b dt (with-link (rd (g .ir)) next) t)) (plus-nothing (reg (with-link (rd (g .ir)) next) (rs (g .ir))) (link-small (rd (g .ir)) (rs (g .ir))))
       ∙ lands deny lines b dt (with-link (rd (g .ir)) next) (reg (with-link (rd (g .ir)) next) (rs (g .ir))) (link-small (rd (g .ir)) (rs (g .ir)))
 

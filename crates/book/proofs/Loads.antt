@@ -17,7 +17,7 @@ use Rattle.book.specs.Book.{Book, Made, Refusals, address, did, done, fetches,
 use Rattle.book.specs.Instruction.{Instruction}
 use Rattle.book.specs.Instant.{World}
 use Rattle.book.specs.Path.{Fit, stand}
-use Rattle.book.proofs.Walk.{Rows, ending, nothing-plus, row, split, walk, init, onlyLast, Reaches}
+use Rattle.book.proofs.Walk.{Rows, amid, ending, nothing-plus, row, split, walk, init, onlyLast, Reaches}
 use Rattle.microprogram.specs.Cycle.{operandX, operandY, advanced, barred, misplaced, when, worked}
 use Rattle.microprogram.specs.Operation.{oneIf, result}
 use Rattle.microprogram.specs.Registers.{Regs, put, withAd, withIr}
@@ -37,11 +37,6 @@ use Rattle.microprogram.specs.declared.row.OperandY.the-variants as y
 use Rattle.microprogram.specs.declared.row.Row.{Row}
 use Rattle.microprogram.specs.declared.row.Sequencing.the-variants as s
 use Rattle.microprogram.specs.declared.row.Transfer.the-variants as m
-
--- a world on the way
-abbrev amid : Book → Regs → ℕ → Option Fault → ℕ → World
-amid b g dt flag at =
-    record { state = record { regs = g; dt = dt; flag = flag; row = at; lines = b .lines; ledger = b .ledger }; bytes = b .bytes }
 
 abbrev checking : Width → Detection
 checking Word = e.Lw

@@ -14,7 +14,7 @@ use Rattle.book.specs.Book.{Book, Made, Refusals, address, done, fetches, met,
 use Rattle.book.specs.Instruction.{Instruction}
 use Rattle.book.specs.Instant.{World}
 use Rattle.book.specs.Path.{Fit, stand}
-use Rattle.book.proofs.Walk.{Rows, ending, plus-nothing, row, walk, init, fetch, Reaches}
+use Rattle.book.proofs.Walk.{Rows, amid, ending, row, rt-word, walk, init, fetch, Reaches}
 use Rattle.microprogram.specs.Cycle.{State, advanced, barred, misplaced, when, worked}
 use Rattle.microprogram.specs.Registers.{Regs, reg, withAd, withIr}
 use Rattle.microprogram.specs.Rows.{rows}
@@ -31,11 +31,6 @@ use Rattle.microprogram.specs.declared.row.Row.{Row}
 use Rattle.microprogram.specs.declared.row.Sequencing.the-variants as s
 use Rattle.microprogram.specs.declared.row.Transfer.{Transfer}
 use Rattle.microprogram.specs.declared.row.Transfer.the-variants as m
-
--- a world on the way
-abbrev amid : Book → Regs → ℕ → Option Fault → ℕ → World
-amid b g dt flag at =
-    record { state = record { regs = g; dt = dt; flag = flag; row = at; lines = b .lines; ledger = b .ledger }; bytes = b .bytes }
 
 abbrev storing : Width → Transfer
 storing Word = m.Ww
@@ -124,9 +119,6 @@ module _ (deny : Refusals) (lines : ℕ) (b : Book) (dt : ℕ) (fit : Fit b) whe
   abbrev aimed : Regs
   aimed = withAd at (risen b)
 
-  rt-word : (reg g (rt (g .ir)) + 0) % 2 ^ 32 ≡ reg g (rt (g .ir))
-  rt-word = plus-nothing (reg g (rt (g .ir))) (fit .general (rt (g .ir)))
-
   abbrev stores-rows : Width → ℕ → Rows
   stores-rows w k = (16, init) ∷ (k, addressing w (k + 1)) ∷ (k + 1, writing w) ∷ (15, fetch) ∷ []
 
@@ -136,9 +128,9 @@ module _ (deny : Refusals) (lines : ℕ) (b : Book) (dt : ℕ) (fit : Fit b) whe
   stage Byte k = refl
 
   stores-walk : (w : Width) (k : ℕ) → walk deny lines (stores-rows w k) (stand b dt 16 None) ≡ ending lines (fetches deny (done deny b (storeOf w) (risen b))) dt
-  stores-walk Word k = ap (walk deny lines ((k + 1, writing Word) ∷ (15, fetch) ∷ [])) (stage Word k) ∙ written-out deny lines b aimed dt Word (k + 1) rt-word (misplaced 4 (g .sr) at)
-  stores-walk Half k = ap (walk deny lines ((k + 1, writing Half) ∷ (15, fetch) ∷ [])) (stage Half k) ∙ written-out deny lines b aimed dt Half (k + 1) rt-word (misplaced 2 (g .sr) at)
-  stores-walk Byte k = ap (walk deny lines ((k + 1, writing Byte) ∷ (15, fetch) ∷ [])) (stage Byte k) ∙ written-out deny lines b aimed dt Byte (k + 1) rt-word (barred (g .sr) at)
+  stores-walk Word k = ap (walk deny lines ((k + 1, writing Word) ∷ (15, fetch) ∷ [])) (stage Word k) ∙ written-out deny lines b aimed dt Word (k + 1) (rt-word b fit) (misplaced 4 (g .sr) at)
+  stores-walk Half k = ap (walk deny lines ((k + 1, writing Half) ∷ (15, fetch) ∷ [])) (stage Half k) ∙ written-out deny lines b aimed dt Half (k + 1) (rt-word b fit) (misplaced 2 (g .sr) at)
+  stores-walk Byte k = ap (walk deny lines ((k + 1, writing Byte) ∷ (15, fetch) ∷ [])) (stage Byte k) ∙ written-out deny lines b aimed dt Byte (k + 1) (rt-word b fit) (barred (g .sr) at)
 
   pub stores-byte : (o : opcode (g .ir) ≡ 40) → Reaches deny lines b dt 16 None 4 (done deny b Instruction.storeByte (risen b))
   unfolding rows

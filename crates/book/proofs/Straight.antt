@@ -14,7 +14,7 @@ use Rattle.book.specs.Book.{Book, Refusals, address, done, fetches, risen}
 use Rattle.book.specs.Instruction.{Instruction}
 use Rattle.book.specs.Instant.{World}
 use Rattle.book.specs.Path.{Fit, stand}
-use Rattle.book.proofs.Walk.{Rows, Leads, ending, nothing-plus, plus-nothing, row, split, walk, init, special, fetch, below, Reaches}
+use Rattle.book.proofs.Walk.{Rows, Leads, ending, nothing-plus, plus-nothing, row, rs-word, rt-word, split, walk, init, special, fetch, below, amid, Reaches}
 use Rattle.microprogram.specs.Cycle.{barred, misplaced}
 use Rattle.microprogram.specs.Operation.{overflow, result}
 use Rattle.microprogram.specs.Registers.{Regs, put, reg, withAd, withPc}
@@ -58,29 +58,19 @@ module _ (deny : Refusals) (lines : ℕ) (b : Book) (dt : ℕ) (fit : Fit b) whe
   abbrev unfetched : Bool
   unfetched = deny .unreadable (wordOf next)
 
-  rt-word : (reg g (rt (g .ir)) + 0) % 2 ^ 32 ≡ reg g (rt (g .ir))
-  rt-word = plus-nothing (reg g (rt (g .ir))) (fit .general (rt (g .ir)))
-
-  rs-word : (reg g (rs (g .ir)) + 0) % 2 ^ 32 ≡ reg g (rs (g .ir))
-  rs-word = plus-nothing (reg g (rs (g .ir))) (fit .general (rs (g .ir)))
-
-  -- on the way: registers, flag and row, all else as at the start
-  abbrev stop : Regs → ℕ → World
-  stop h n = record { state = record { regs = h; dt = dt; flag = None; row = n; lines = b .lines; ledger = b .ledger }; bytes = b .bytes }
-
   abbrev first-rows : ℕ → Rows
   first-rows f = (16, init) ∷ (256, special) ∷ (512 + f * 4, row x.Rt y.C0 Sum r.Ad m.Nop e.Nop s.Next (512 + f * 4 + 1)) ∷ []
 
   abbrev last-rows : Operation → ℕ → Rows
   last-rows op f = (512 + f * 4 + 1, row x.Rs y.Ad op r.Ad m.Nop e.Ovf s.Next (512 + f * 4 + 2)) ∷ (512 + f * 4 + 2, row x.C0 y.Ad Sum r.Rd m.If e.Ibe s.Rie 16) ∷ []
 
-  taken : (f : ℕ) → walk deny lines (first-rows f) start ≡ stop (withAd (reg g (rt (g .ir))) (risen b)) (512 + f * 4 + 1)
-  taken f = rw rt-word
+  taken : (f : ℕ) → walk deny lines (first-rows f) start ≡ amid b (withAd (reg g (rt (g .ir))) (risen b)) dt None (512 + f * 4 + 1)
+  taken f = rw (rt-word b fit)
 
-  unflagged : (op : Operation) (f : ℕ) → overflow op (reg g (rs (g .ir))) (reg g (rt (g .ir))) ≡ false → walk deny lines ((512 + f * 4 + 1, row x.Rs y.Ad op r.Ad m.Nop e.Ovf s.Next (512 + f * 4 + 2)) ∷ []) (stop (withAd (reg g (rt (g .ir))) (risen b)) (512 + f * 4 + 1)) ≡ stop (withAd (result op (reg g (rs (g .ir))) (reg g (rt (g .ir)))) (risen b)) (512 + f * 4 + 2)
+  unflagged : (op : Operation) (f : ℕ) → overflow op (reg g (rs (g .ir))) (reg g (rt (g .ir))) ≡ false → walk deny lines ((512 + f * 4 + 1, row x.Rs y.Ad op r.Ad m.Nop e.Ovf s.Next (512 + f * 4 + 2)) ∷ []) (amid b (withAd (reg g (rt (g .ir))) (risen b)) dt None (512 + f * 4 + 1)) ≡ amid b (withAd (result op (reg g (rs (g .ir))) (reg g (rt (g .ir)))) (risen b)) dt None (512 + f * 4 + 2)
   unflagged op f v = rw v
 
-  checked : (op : Operation) (f : ℕ) → result op (reg g (rs (g .ir))) (reg g (rt (g .ir))) < 2 ^ 32 → walk deny lines (last-rows op f) (stop (withAd (reg g (rt (g .ir))) (risen b)) (512 + f * 4 + 1)) ≡ ending lines (fetches deny (done deny b (Instruction.computeChecked op) (risen b))) dt
+  checked : (op : Operation) (f : ℕ) → result op (reg g (rs (g .ir))) (reg g (rt (g .ir))) < 2 ^ 32 → walk deny lines (last-rows op f) (amid b (withAd (reg g (rt (g .ir))) (risen b)) dt None (512 + f * 4 + 1)) ≡ ending lines (fetches deny (done deny b (Instruction.computeChecked op) (risen b))) dt
   checked op f small =
       split (overflow op (reg g (rs (g .ir))) (reg g (rt (g .ir))))
       (λ v. rw v)
@@ -103,7 +93,7 @@ module _ (deny : Refusals) (lines : ℕ) (b : Book) (dt : ℕ) (fit : Fit b) whe
   shifts-by-rows op f = (16, init) ∷ (256, special) ∷ (512 + f * 4, row x.Rs y.C0 Sum r.Ad m.Nop e.Nop s.Next (512 + f * 4 + 1)) ∷ (512 + f * 4 + 1, row x.Rt y.Ad op r.Rd m.If e.Ibe s.Rie 16) ∷ []
 
   shifts-by-walk : (op : Operation) (f : ℕ) → walk deny lines (shifts-by-rows op f) (stand b dt 16 None) ≡ ending lines (fetches deny (done deny b (Instruction.shiftBy op) (risen b))) dt
-  shifts-by-walk op f = split unfetched (λ q. simp (q, rs-word)) (λ q. simp (q, rs-word))
+  shifts-by-walk op f = split unfetched (λ q. simp (q, rs-word b fit)) (λ q. simp (q, rs-word b fit))
 
   pub shifts-by : (op : Operation) (f : ℕ) (o : opcode (g .ir) ≡ 0) (fe : function (g .ir) ≡ f) (h1 : rowAt (512 + f * 4) ≡ row x.Rs y.C0 Sum r.Ad m.Nop e.Nop s.Next (512 + f * 4 + 1)) (h2 : rowAt (512 + f * 4 + 1) ≡ row x.Rt y.Ad op r.Rd m.If e.Ibe s.Rie 16) → Reaches deny lines b dt 16 None 4 (done deny b (Instruction.shiftBy op) (risen b))
   unfolding rows
@@ -113,7 +103,7 @@ module _ (deny : Refusals) (lines : ℕ) (b : Book) (dt : ℕ) (fit : Fit b) whe
   computes-rows op f = (16, init) ∷ (256, special) ∷ (512 + f * 4, row x.Rt y.C0 Sum r.Ad m.Nop e.Nop s.Next (512 + f * 4 + 1)) ∷ (512 + f * 4 + 1, row x.Rs y.Ad op r.Rd m.If e.Ibe s.Rie 16) ∷ []
 
   computes-walk : (op : Operation) (f : ℕ) → walk deny lines (computes-rows op f) (stand b dt 16 None) ≡ ending lines (fetches deny (done deny b (Instruction.compute op) (risen b))) dt
-  computes-walk op f = split unfetched (λ q. simp (q, rt-word)) (λ q. simp (q, rt-word))
+  computes-walk op f = split unfetched (λ q. simp (q, rt-word b fit)) (λ q. simp (q, rt-word b fit))
 
   pub computes : (op : Operation) (f : ℕ) (o : opcode (g .ir) ≡ 0) (fe : function (g .ir) ≡ f) (h1 : rowAt (512 + f * 4) ≡ row x.Rt y.C0 Sum r.Ad m.Nop e.Nop s.Next (512 + f * 4 + 1)) (h2 : rowAt (512 + f * 4 + 1) ≡ row x.Rs y.Ad op r.Rd m.If e.Ibe s.Rie 16) → Reaches deny lines b dt 16 None 4 (done deny b (Instruction.compute op) (risen b))
   unfolding rows
@@ -133,7 +123,7 @@ module _ (deny : Refusals) (lines : ℕ) (b : Book) (dt : ℕ) (fit : Fit b) whe
   computes-pair-rows low high f = (16, init) ∷ (256, special) ∷ (512 + f * 4, row x.Rt y.C0 Sum r.Ad m.Nop e.Nop s.Next (512 + f * 4 + 1)) ∷ (512 + f * 4 + 1, row x.Rs y.Ad low r.Lo m.Nop e.Nop s.Next (512 + f * 4 + 2)) ∷ (512 + f * 4 + 2, row x.Rs y.Ad high r.Hi m.If e.Ibe s.Rie 16) ∷ []
 
   computes-pair-walk : (low : Operation) (high : Operation) (f : ℕ) → walk deny lines (computes-pair-rows low high f) (stand b dt 16 None) ≡ ending lines (fetches deny (done deny b (Instruction.computePair low high) (risen b))) dt
-  computes-pair-walk low high f = split unfetched (λ q. simp (q, rt-word)) (λ q. simp (q, rt-word))
+  computes-pair-walk low high f = split unfetched (λ q. simp (q, rt-word b fit)) (λ q. simp (q, rt-word b fit))
 
   pub computes-pair : (low : Operation) (high : Operation) (f : ℕ) (o : opcode (g .ir) ≡ 0) (fe : function (g .ir) ≡ f) (h1 : rowAt (512 + f * 4) ≡ row x.Rt y.C0 Sum r.Ad m.Nop e.Nop s.Next (512 + f * 4 + 1)) (h2 : rowAt (512 + f * 4 + 1) ≡ row x.Rs y.Ad low r.Lo m.Nop e.Nop s.Next (512 + f * 4 + 2)) (h3 : rowAt (512 + f * 4 + 2) ≡ row x.Rs y.Ad high r.Hi m.If e.Ibe s.Rie 16) → Reaches deny lines b dt 16 None 5 (done deny b (Instruction.computePair low high) (risen b))
   unfolding rows
@@ -153,7 +143,7 @@ module _ (deny : Refusals) (lines : ℕ) (b : Book) (dt : ℕ) (fit : Fit b) whe
   moves-to-hi-rows = (16, init) ∷ (256, special) ∷ (580, row x.Rs y.C0 Sum r.Hi m.If e.Ibe s.Rie 16) ∷ []
 
   moves-to-hi-walk : walk deny lines (moves-to-hi-rows) (stand b dt 16 None) ≡ ending lines (fetches deny (done deny b Instruction.moveToHi (risen b))) dt
-  moves-to-hi-walk = split unfetched (λ q. simp (q, rs-word)) (λ q. simp (q, rs-word))
+  moves-to-hi-walk = split unfetched (λ q. simp (q, rs-word b fit)) (λ q. simp (q, rs-word b fit))
 
   pub moves-to-hi : (o : opcode (g .ir) ≡ 0) (fe : function (g .ir) ≡ 17) → Reaches deny lines b dt 16 None 3 (done deny b Instruction.moveToHi (risen b))
   unfolding rows
@@ -173,7 +163,7 @@ module _ (deny : Refusals) (lines : ℕ) (b : Book) (dt : ℕ) (fit : Fit b) whe
   moves-to-lo-rows = (16, init) ∷ (256, special) ∷ (588, row x.Rs y.C0 Sum r.Lo m.If e.Ibe s.Rie 16) ∷ []
 
   moves-to-lo-walk : walk deny lines (moves-to-lo-rows) (stand b dt 16 None) ≡ ending lines (fetches deny (done deny b Instruction.moveToLo (risen b))) dt
-  moves-to-lo-walk = split unfetched (λ q. simp (q, rs-word)) (λ q. simp (q, rs-word))
+  moves-to-lo-walk = split unfetched (λ q. simp (q, rs-word b fit)) (λ q. simp (q, rs-word b fit))
 
   pub moves-to-lo : (o : opcode (g .ir) ≡ 0) (fe : function (g .ir) ≡ 19) → Reaches deny lines b dt 16 None 3 (done deny b Instruction.moveToLo (risen b))
   unfolding rows
@@ -185,13 +175,13 @@ module _ (deny : Refusals) (lines : ℕ) (b : Book) (dt : ℕ) (fit : Fit b) whe
   sum-word : (0 + (reg g (rs (g .ir)) + extended (g .ir)) % 2 ^ 32) % 2 ^ 32 ≡ (reg g (rs (g .ir)) + extended (g .ir)) % 2 ^ 32
   sum-word = nothing-plus _ (below (reg g (rs (g .ir)) + extended (g .ir)))
 
-  immediate-taken : (n : ℕ) (w : Row) → w ≡ row x.C0 y.I16 Sum r.Ad m.Nop e.Nop s.Next n → walk deny lines ((16, init) ∷ (288, row x.C0 y.I16 Sum r.Ad m.Nop e.Nop s.Next n) ∷ []) start ≡ stop (withAd (extended (g .ir)) (risen b)) n
+  immediate-taken : (n : ℕ) (w : Row) → w ≡ row x.C0 y.I16 Sum r.Ad m.Nop e.Nop s.Next n → walk deny lines ((16, init) ∷ (288, row x.C0 y.I16 Sum r.Ad m.Nop e.Nop s.Next n) ∷ []) start ≡ amid b (withAd (extended (g .ir)) (risen b)) dt None n
   immediate-taken n w h = rw extended-word
 
-  immediate-unflagged : overflow Sum (reg g (rs (g .ir))) (extended (g .ir)) ≡ false → walk deny lines ((289, row x.Rs y.Ad Sum r.Ad m.Nop e.Ovf s.Next 290) ∷ []) (stop (withAd (extended (g .ir)) (risen b)) 289) ≡ stop (withAd ((reg g (rs (g .ir)) + extended (g .ir)) % 2 ^ 32) (risen b)) 290
+  immediate-unflagged : overflow Sum (reg g (rs (g .ir))) (extended (g .ir)) ≡ false → walk deny lines ((289, row x.Rs y.Ad Sum r.Ad m.Nop e.Ovf s.Next 290) ∷ []) (amid b (withAd (extended (g .ir)) (risen b)) dt None 289) ≡ amid b (withAd ((reg g (rs (g .ir)) + extended (g .ir)) % 2 ^ 32) (risen b)) dt None 290
   immediate-unflagged v = rw v
 
-  immediate-added : walk deny lines ((289, row x.Rs y.Ad Sum r.Ad m.Nop e.Ovf s.Next 290) ∷ (290, row x.C0 y.Ad Sum r.Rt m.If e.Ibe s.Rie 16) ∷ []) (stop (withAd (extended (g .ir)) (risen b)) 289) ≡ ending lines (fetches deny (done deny b Instruction.addImmediate (risen b))) dt
+  immediate-added : walk deny lines ((289, row x.Rs y.Ad Sum r.Ad m.Nop e.Ovf s.Next 290) ∷ (290, row x.C0 y.Ad Sum r.Rt m.If e.Ibe s.Rie 16) ∷ []) (amid b (withAd (extended (g .ir)) (risen b)) dt None 289) ≡ ending lines (fetches deny (done deny b Instruction.addImmediate (risen b))) dt
   immediate-added =
       split (overflow Sum (reg g (rs (g .ir))) (extended (g .ir)))
       (λ v. rw v)

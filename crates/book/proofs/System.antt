@@ -12,7 +12,7 @@ use Rattle.book.specs.Book.{Book, Made, Refusals, did, done, fetches, fromSyst
 use Rattle.book.specs.Instruction.{Instruction, under}
 use Rattle.book.specs.Instant.{World}
 use Rattle.book.specs.Path.{Fit, stand}
-use Rattle.book.proofs.Walk.{Rows, ending, plus-nothing, row, split, walk, init, special, fetch, Reaches}
+use Rattle.book.proofs.Walk.{Rows, amid, ending, fetching, plus-nothing, row, rt-word, split, walk, init, special, fetch, Reaches}
 use Rattle.microprogram.specs.Cycle.{allowed, flagged, when}
 use Rattle.microprogram.specs.Registers.{Regs, put, reg, withBar, withCr, withEpc, withIr, withSr}
 use Rattle.microprogram.specs.Rows.{rowAt, rows}
@@ -50,18 +50,6 @@ none-of n v w y z other h8 h12 h13 h14 =
     ∙ passed n (13, y) ((14, z) ∷ []) other h13
     ∙ passed n (14, z) [] other h14
 
--- a world at some registers
-abbrev pub place : Book → Regs → ℕ → ℕ → Option Fault → World
-place b g dt row flag =
-    record {
-      state = record { regs = g; dt = dt; flag = flag; row = row; lines = b .lines; ledger = b .ledger };
-      bytes = b .bytes;
-    }
-
--- the fetch behind registers that a step left
-pub fetching : (deny : Refusals) (lines : ℕ) (b : Book) (g : Regs) (dt row : ℕ) → walk deny lines ((15, fetch) ∷ []) (place b g dt row None) ≡ ending lines (fetches deny (did b g)) dt
-fetching deny lines b g dt row = split (deny .unreadable (wordOf (g .pc))) (λ q. simp (q)) (λ q. simp (q))
-
 module _ (deny : Refusals) (lines : ℕ) (b : Book) (dt : ℕ) (fit : Fit b) where
   abbrev g : Regs
   g = b .regs
@@ -72,9 +60,6 @@ module _ (deny : Refusals) (lines : ℕ) (b : Book) (dt : ℕ) (fit : Fit b) whe
   -- whether the fetch behind a straight path is refused
   abbrev unfetched : Bool
   unfetched = deny .unreadable (wordOf next)
-
-  rt-word : (reg g (rt (g .ir)) + 0) % 2 ^ 32 ≡ reg g (rt (g .ir))
-  rt-word = plus-nothing (reg g (rt (g .ir))) (fit .general (rt (g .ir)))
 
   abbrev calls-system-rows : Rows
   calls-system-rows = (16, init) ∷ (256, special) ∷ (560, row x.C0 y.C0 Sum r.Nop m.Nop e.Sys s.Next 15) ∷ (15, fetch) ∷ []
@@ -142,7 +127,7 @@ module _ (deny : Refusals) (lines : ℕ) (b : Book) (dt : ℕ) (fit : Fit b) whe
       (λ q. record { rows = returns-rows 130; long = refl; plain = refl; leads = (refl, refl, (ap (λ n. 256 + n * 4) o, refl, (rw (p, q) refl, refl, (refl, refl, tt)))); last = dt; arrives = returns-walk 130 })
 
   -- a move in either mode, from what its last rows do in each
-  moved-mode : (ps : Rows) (n : ℕ) (made′ : Made) → walk deny lines ps (place b (risen b) dt n None) ≡ ending lines (fetches deny made′) dt → walk deny lines ps (place b (risen b) dt n (Some f.Cpu)) ≡ ending lines (met b f.Cpu (risen b)) dt → (u : Bool) → walk deny lines ps (mode-world (risen b) n u) ≡ ending lines (fetches deny (cond u (met b f.Cpu (risen b)) made′)) dt
+  moved-mode : (ps : Rows) (n : ℕ) (made′ : Made) → walk deny lines ps (amid b (risen b) dt None n) ≡ ending lines (fetches deny made′) dt → walk deny lines ps (amid b (risen b) dt (Some f.Cpu) n) ≡ ending lines (met b f.Cpu (risen b)) dt → (u : Bool) → walk deny lines ps (mode-world (risen b) n u) ≡ ending lines (fetches deny (cond u (met b f.Cpu (risen b)) made′)) dt
   moved-mode ps n made′ here there true = there
   moved-mode ps n made′ here there false = here
 
@@ -155,7 +140,7 @@ module _ (deny : Refusals) (lines : ℕ) (b : Book) (dt : ℕ) (fit : Fit b) whe
   abbrev moves-from-bar-rows : Rows
   moves-from-bar-rows = (16, init) ∷ (320, copro) ∷ (128, mfc0) ∷ (152, row x.Bar y.C0 Sum r.Rt m.If e.Ibe s.Rie 16) ∷ []
 
-  moves-from-bar-last : (n : ℕ) → walk deny lines ((152, row x.Bar y.C0 Sum r.Rt m.If e.Ibe s.Rie 16) ∷ []) (place b (risen b) dt n None) ≡ ending lines (fetches deny (fromSystem b (risen b) 8)) dt
+  moves-from-bar-last : (n : ℕ) → walk deny lines ((152, row x.Bar y.C0 Sum r.Rt m.If e.Ibe s.Rie 16) ∷ []) (amid b (risen b) dt None n) ≡ ending lines (fetches deny (fromSystem b (risen b) 8)) dt
   moves-from-bar-last n = split unfetched (λ q. simp (q, plus-nothing (g .bar) (fit .bar))) (λ q. simp (q, plus-nothing (g .bar) (fit .bar)))
 
   moves-from-bar-walk : walk deny lines moves-from-bar-rows (stand b dt 16 None) ≡ ending lines (fetches deny (done deny b (Instruction.moveFromSystem 8) (risen b))) dt
@@ -168,7 +153,7 @@ module _ (deny : Refusals) (lines : ℕ) (b : Book) (dt : ℕ) (fit : Fit b) whe
   abbrev moves-from-sr-rows : Rows
   moves-from-sr-rows = (16, init) ∷ (320, copro) ∷ (128, mfc0) ∷ (156, row x.Sr y.C0 Sum r.Rt m.If e.Ibe s.Rie 16) ∷ []
 
-  moves-from-sr-last : (n : ℕ) → walk deny lines ((156, row x.Sr y.C0 Sum r.Rt m.If e.Ibe s.Rie 16) ∷ []) (place b (risen b) dt n None) ≡ ending lines (fetches deny (fromSystem b (risen b) 12)) dt
+  moves-from-sr-last : (n : ℕ) → walk deny lines ((156, row x.Sr y.C0 Sum r.Rt m.If e.Ibe s.Rie 16) ∷ []) (amid b (risen b) dt None n) ≡ ending lines (fetches deny (fromSystem b (risen b) 12)) dt
   moves-from-sr-last n = split unfetched (λ q. simp (q, plus-nothing (g .sr) (fit .sr))) (λ q. simp (q, plus-nothing (g .sr) (fit .sr)))
 
   moves-from-sr-walk : walk deny lines moves-from-sr-rows (stand b dt 16 None) ≡ ending lines (fetches deny (done deny b (Instruction.moveFromSystem 12) (risen b))) dt
@@ -181,7 +166,7 @@ module _ (deny : Refusals) (lines : ℕ) (b : Book) (dt : ℕ) (fit : Fit b) whe
   abbrev moves-from-cr-rows : Rows
   moves-from-cr-rows = (16, init) ∷ (320, copro) ∷ (128, mfc0) ∷ (157, row x.Cr y.C0 Sum r.Rt m.If e.Ibe s.Rie 16) ∷ []
 
-  moves-from-cr-last : (n : ℕ) → walk deny lines ((157, row x.Cr y.C0 Sum r.Rt m.If e.Ibe s.Rie 16) ∷ []) (place b (risen b) dt n None) ≡ ending lines (fetches deny (fromSystem b (risen b) 13)) dt
+  moves-from-cr-last : (n : ℕ) → walk deny lines ((157, row x.Cr y.C0 Sum r.Rt m.If e.Ibe s.Rie 16) ∷ []) (amid b (risen b) dt None n) ≡ ending lines (fetches deny (fromSystem b (risen b) 13)) dt
   moves-from-cr-last n = split unfetched (λ q. simp (q, plus-nothing (causes (b .lines) (g .cr)) (causes-small (b .lines) (g .cr) (fit .cr)))) (λ q. simp (q, plus-nothing (causes (b .lines) (g .cr)) (causes-small (b .lines) (g .cr) (fit .cr))))
 
   moves-from-cr-walk : walk deny lines moves-from-cr-rows (stand b dt 16 None) ≡ ending lines (fetches deny (done deny b (Instruction.moveFromSystem 13) (risen b))) dt
@@ -194,7 +179,7 @@ module _ (deny : Refusals) (lines : ℕ) (b : Book) (dt : ℕ) (fit : Fit b) whe
   abbrev moves-from-epc-rows : Rows
   moves-from-epc-rows = (16, init) ∷ (320, copro) ∷ (128, mfc0) ∷ (158, row x.Epc y.C0 Sum r.Rt m.If e.Ibe s.Rie 16) ∷ []
 
-  moves-from-epc-last : (n : ℕ) → walk deny lines ((158, row x.Epc y.C0 Sum r.Rt m.If e.Ibe s.Rie 16) ∷ []) (place b (risen b) dt n None) ≡ ending lines (fetches deny (fromSystem b (risen b) 14)) dt
+  moves-from-epc-last : (n : ℕ) → walk deny lines ((158, row x.Epc y.C0 Sum r.Rt m.If e.Ibe s.Rie 16) ∷ []) (amid b (risen b) dt None n) ≡ ending lines (fetches deny (fromSystem b (risen b) 14)) dt
   moves-from-epc-last n = split unfetched (λ q. simp (q, plus-nothing (g .epc) (fit .epc))) (λ q. simp (q, plus-nothing (g .epc) (fit .epc)))
 
   moves-from-epc-walk : walk deny lines moves-from-epc-rows (stand b dt 16 None) ≡ ending lines (fetches deny (done deny b (Instruction.moveFromSystem 14) (risen b))) dt
@@ -222,8 +207,8 @@ module _ (deny : Refusals) (lines : ℕ) (b : Book) (dt : ℕ) (fit : Fit b) whe
   abbrev moves-to-bar-rows : Rows
   moves-to-bar-rows = (16, init) ∷ (320, copro) ∷ (129, mtc0) ∷ (168, row x.Rt y.C0 Sum r.Bar m.If e.Ibe s.Rie 16) ∷ []
 
-  moves-to-bar-last : (n : ℕ) → walk deny lines ((168, row x.Rt y.C0 Sum r.Bar m.If e.Ibe s.Rie 16) ∷ []) (place b (risen b) dt n None) ≡ ending lines (fetches deny (toSystem b (risen b) 8)) dt
-  moves-to-bar-last n = split unfetched (λ q. simp (q, rt-word)) (λ q. simp (q, rt-word))
+  moves-to-bar-last : (n : ℕ) → walk deny lines ((168, row x.Rt y.C0 Sum r.Bar m.If e.Ibe s.Rie 16) ∷ []) (amid b (risen b) dt None n) ≡ ending lines (fetches deny (toSystem b (risen b) 8)) dt
+  moves-to-bar-last n = split unfetched (λ q. simp (q, rt-word b fit)) (λ q. simp (q, rt-word b fit))
 
   moves-to-bar-walk : walk deny lines moves-to-bar-rows (stand b dt 16 None) ≡ ending lines (fetches deny (done deny b (Instruction.moveToSystem 8) (risen b))) dt
   moves-to-bar-walk = moved-mode ((168, row x.Rt y.C0 Sum r.Bar m.If e.Ibe s.Rie 16) ∷ []) (160 + system (g .ir)) (toSystem b (risen b) 8) (moves-to-bar-last (160 + system (g .ir))) refl (user (g .sr))
@@ -235,8 +220,8 @@ module _ (deny : Refusals) (lines : ℕ) (b : Book) (dt : ℕ) (fit : Fit b) whe
   abbrev moves-to-sr-rows : Rows
   moves-to-sr-rows = (16, init) ∷ (320, copro) ∷ (129, mtc0) ∷ (172, row x.Rt y.C0 Sum r.Sr m.If e.Ibe s.Rie 16) ∷ []
 
-  moves-to-sr-last : (n : ℕ) → walk deny lines ((172, row x.Rt y.C0 Sum r.Sr m.If e.Ibe s.Rie 16) ∷ []) (place b (risen b) dt n None) ≡ ending lines (fetches deny (toSystem b (risen b) 12)) dt
-  moves-to-sr-last n = split unfetched (λ q. simp (q, rt-word)) (λ q. simp (q, rt-word))
+  moves-to-sr-last : (n : ℕ) → walk deny lines ((172, row x.Rt y.C0 Sum r.Sr m.If e.Ibe s.Rie 16) ∷ []) (amid b (risen b) dt None n) ≡ ending lines (fetches deny (toSystem b (risen b) 12)) dt
+  moves-to-sr-last n = split unfetched (λ q. simp (q, rt-word b fit)) (λ q. simp (q, rt-word b fit))
 
   moves-to-sr-walk : walk deny lines moves-to-sr-rows (stand b dt 16 None) ≡ ending lines (fetches deny (done deny b (Instruction.moveToSystem 12) (risen b))) dt
   moves-to-sr-walk = moved-mode ((172, row x.Rt y.C0 Sum r.Sr m.If e.Ibe s.Rie 16) ∷ []) (160 + system (g .ir)) (toSystem b (risen b) 12) (moves-to-sr-last (160 + system (g .ir))) refl (user (g .sr))
@@ -248,8 +233,8 @@ module _ (deny : Refusals) (lines : ℕ) (b : Book) (dt : ℕ) (fit : Fit b) whe
   abbrev moves-to-cr-rows : Rows
   moves-to-cr-rows = (16, init) ∷ (320, copro) ∷ (129, mtc0) ∷ (173, row x.Rt y.C0 Sum r.Cr m.If e.Ibe s.Rie 16) ∷ []
 
-  moves-to-cr-last : (n : ℕ) → walk deny lines ((173, row x.Rt y.C0 Sum r.Cr m.If e.Ibe s.Rie 16) ∷ []) (place b (risen b) dt n None) ≡ ending lines (fetches deny (toSystem b (risen b) 13)) dt
-  moves-to-cr-last n = split unfetched (λ q. simp (q, rt-word)) (λ q. simp (q, rt-word))
+  moves-to-cr-last : (n : ℕ) → walk deny lines ((173, row x.Rt y.C0 Sum r.Cr m.If e.Ibe s.Rie 16) ∷ []) (amid b (risen b) dt None n) ≡ ending lines (fetches deny (toSystem b (risen b) 13)) dt
+  moves-to-cr-last n = split unfetched (λ q. simp (q, rt-word b fit)) (λ q. simp (q, rt-word b fit))
 
   moves-to-cr-walk : walk deny lines moves-to-cr-rows (stand b dt 16 None) ≡ ending lines (fetches deny (done deny b (Instruction.moveToSystem 13) (risen b))) dt
   moves-to-cr-walk = moved-mode ((173, row x.Rt y.C0 Sum r.Cr m.If e.Ibe s.Rie 16) ∷ []) (160 + system (g .ir)) (toSystem b (risen b) 13) (moves-to-cr-last (160 + system (g .ir))) refl (user (g .sr))
@@ -261,8 +246,8 @@ module _ (deny : Refusals) (lines : ℕ) (b : Book) (dt : ℕ) (fit : Fit b) whe
   abbrev moves-to-epc-rows : Rows
   moves-to-epc-rows = (16, init) ∷ (320, copro) ∷ (129, mtc0) ∷ (174, row x.Rt y.C0 Sum r.Epc m.If e.Ibe s.Rie 16) ∷ []
 
-  moves-to-epc-last : (n : ℕ) → walk deny lines ((174, row x.Rt y.C0 Sum r.Epc m.If e.Ibe s.Rie 16) ∷ []) (place b (risen b) dt n None) ≡ ending lines (fetches deny (toSystem b (risen b) 14)) dt
-  moves-to-epc-last n = split unfetched (λ q. simp (q, rt-word)) (λ q. simp (q, rt-word))
+  moves-to-epc-last : (n : ℕ) → walk deny lines ((174, row x.Rt y.C0 Sum r.Epc m.If e.Ibe s.Rie 16) ∷ []) (amid b (risen b) dt None n) ≡ ending lines (fetches deny (toSystem b (risen b) 14)) dt
+  moves-to-epc-last n = split unfetched (λ q. simp (q, rt-word b fit)) (λ q. simp (q, rt-word b fit))
 
   moves-to-epc-walk : walk deny lines moves-to-epc-rows (stand b dt 16 None) ≡ ending lines (fetches deny (done deny b (Instruction.moveToSystem 14) (risen b))) dt
   moves-to-epc-walk = moved-mode ((174, row x.Rt y.C0 Sum r.Epc m.If e.Ibe s.Rie 16) ∷ []) (160 + system (g .ir)) (toSystem b (risen b) 14) (moves-to-epc-last (160 + system (g .ir))) refl (user (g .sr))

@@ -8,12 +8,15 @@ use lib.ListN.{length}
 use Rattle.std.specs.Options.{isSome}
 use Rattle.std.specs.declared.option.Option.{Option}
 use Rattle.std.specs.declared.option.Option.the-variants.{Some, None}
-use Rattle.book.specs.Book.{Book, Made, Refusals, fetches}
+use Rattle.bus.specs.Request.{wordOf}
+use Rattle.book.specs.Book.{Book, Made, Refusals, did, fetches}
 use Rattle.book.specs.Instant.{World, tick, ticked, ticks}
-use Rattle.book.specs.Path.{stand}
+use Rattle.book.specs.Path.{Fit, stand}
 use Rattle.microprogram.specs.Cycle.{ends, interrupting, resetting}
 use Rattle.microprogram.specs.Operation.{oneIf}
+use Rattle.microprogram.specs.Registers.{Regs, reg}
 use Rattle.microprogram.specs.Rows.{rowAt, rows}
+use Rattle.microprogram.specs.Word.{rs, rt}
 use Rattle.microprogram.specs.declared.fault.Fault.{Fault}
 use Rattle.microprogram.specs.declared.operation.Operation.{Operation}
 use Rattle.microprogram.specs.declared.operation.Operation.the-variants.{Sum}
@@ -108,3 +111,19 @@ special = row x.C0 y.C0 Sum r.Nop m.Nop e.Nop s.Spec 0
 
 abbrev pub fetch : Row
 fetch = row x.C0 y.C0 Sum r.Nop m.If e.Ibe s.Rie 16
+
+-- a world on the way of a step: its registers, DT, flag and row, and all else as at the start
+abbrev pub amid : Book → Regs → ℕ → Option Fault → ℕ → World
+amid b g dt flag at =
+    record { state = record { regs = g; dt = dt; flag = flag; row = at; lines = b .lines; ledger = b .ledger }; bytes = b .bytes }
+
+-- the fetch behind registers that a step left
+pub fetching : (deny : Refusals) (lines : ℕ) (b : Book) (g : Regs) (dt at : ℕ) → walk deny lines ((at, fetch) ∷ []) (amid b g dt None at) ≡ ending lines (fetches deny (did b g)) dt
+fetching deny lines b g dt at = split (deny .unreadable (wordOf (g .pc))) (λ q. rw q) (λ q. rw q)
+
+-- RT and RS, passed on through a sum with nothing
+pub rt-word : (b : Book) → Fit b → (reg (b .regs) (rt (b .regs .ir)) + 0) % 2 ^ 32 ≡ reg (b .regs) (rt (b .regs .ir))
+rt-word b fit = plus-nothing (reg (b .regs) (rt (b .regs .ir))) (fit .general (rt (b .regs .ir)))
+
+pub rs-word : (b : Book) → Fit b → (reg (b .regs) (rs (b .regs .ir)) + 0) % 2 ^ 32 ≡ reg (b .regs) (rs (b .regs .ir))
+rs-word b fit = plus-nothing (reg (b .regs) (rs (b .regs .ir))) (fit .general (rs (b .regs .ir)))
