@@ -6,6 +6,7 @@ mod Jumps
 mod Loads
 mod Longest
 mod Steps
+mod Still
 mod Stores
 mod Straight
 mod System

@@ -1,7 +1,8 @@
 -- The microprogram with a memory that never waits. Assumes nothing.
 use mathlib.Core.Bool.{Bool, cond}
+use mathlib.Core.Path.{_≡_}
 use Prim.Native.Nat.{ℕ, zero, suc}
-use Rattle.bus.specs.Meaning.{Meaning, answer, refused, stored}
+use Rattle.bus.specs.Meaning.{Meaning, after, answer, refused, stored}
 use Rattle.bus.specs.Request.{first, size}
 use Rattle.bus.specs.declared.request.Action.the-variants as action
 use Rattle.bus.specs.declared.request.Answer.{Answer}
@@ -32,6 +33,10 @@ abbrev pub changed : Meaning → Option Request → ℕ → ℕ
 changed m None = m .byte
 changed m (Some q) =
     elim (q .action) [ action.Read ↦ m .byte | action.Write w d ↦ cond (refused m q) (m .byte) (stored (first w (q .address)) (size w) d (m .byte)) ]
+
+-- that is what the bus says of the bytes after a request
+abbrev pub StillKeeps : Type 0
+StillKeeps = (r : Refusals) (bytes : ℕ → ℕ) (q : Request) (x : ℕ) → changed (still r bytes) (Some q) x ≡ after (still r bytes) q x
 
 -- one cycle in a row
 abbrev pub ticked : Row → Refusals → ℕ → World → World

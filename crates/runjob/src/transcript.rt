@@ -75,7 +75,7 @@ fn perform<B: Bus>(rt: &LibcRuntime, bus: &mut B, step: Step) -> Result<(), AnyE
     Ok(())
 }
 
-pub fn run(rt: &LibcRuntime) -> Result<(), AnyError> {
+pub(crate) fn run(rt: &LibcRuntime) -> Result<(), AnyError> {
     let heap = rt.alloc();
     let mut low = vec![in heap; 0u8; pile::LOW_LENGTH]?;
     let mut high = vec![in heap; 0u8; pile::HIGH_LENGTH]?;
