@@ -1,8 +1,8 @@
 -- From a path of rows to the step of the book that it walks. Assumes nothing.
-use mathlib.Core.Bool.{Bool, true, false, cond, not, _&&_}
-use mathlib.Core.List.{List, [], _∷_}
-use mathlib.Core.Logic.{_⊎_, inl, inr}
-use mathlib.Core.Path.{_≡_, refl, sym, ap, subst, _∙_}
+use mathlib.Core.Bool.{Bool, true, false, cond}
+use mathlib.Core.List.{[], _∷_}
+use mathlib.Core.Logic.{inl, inr}
+use mathlib.Core.Path.{_≡_, refl, sym, ap, _∙_}
 use Prim.Native.Nat.{ℕ, zero, suc, _+_, _*_, _<_}
 use native.Mathlib.Omega.{arith}
 use lib.ListN.{length}
@@ -10,11 +10,11 @@ use Rattle.std.specs.Options.{isSome}
 use Rattle.std.specs.declared.option.Option.{Option}
 use Rattle.std.specs.declared.option.Option.the-variants.{Some, None}
 use Rattle.std.proofs.shelf.Tests.{and-parts, not-true}
-use Rattle.book.specs.Book.{Book, Event, Made, Refusals, fetches, made, next, step}
+use Rattle.book.specs.Book.{Book, Event, Refusals, fetches, made}
 use Rattle.book.specs.Instant.{World, tick, ticked, ticks}
 use Rattle.book.specs.Length.{lengthOf}
-use Rattle.book.specs.Path.{At, Stands, Walks, endsPath, stand}
-use Rattle.book.proofs.Walk.{Leads, Reaches, Rows, onlyLast, walk, walked}
+use Rattle.book.specs.Path.{At, Walks, endsPath, stand}
+use Rattle.book.proofs.Walk.{Leads, Reaches, Rows, onlyLast, walked}
 use Rattle.microprogram.specs.Cycle.{ends, interrupting, resetting}
 use Rattle.microprogram.specs.Operation.{oneIf}
 use Rattle.microprogram.specs.Rows.{rowAt}

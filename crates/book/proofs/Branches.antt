@@ -124,10 +124,10 @@ module _ (deny : Refusals) (lines : ℕ) (b : Book) (dt : ℕ) (fit : Fit b) whe
   other = reg g (rt (g .ir))
 
   other-word : (other + 0) % 2 ^ 32 ≡ other
-  other-word = plus-nothing other (fit .general (rt (g .ir)))
+  other-word = plus-nothing other (fit .words .general (rt (g .ir)))
 
   same : eqb ((one + (2 ^ 32 - (other + 0) % 2 ^ 32)) % 2 ^ 32) 0 ≡ eqb one other
-  same = same-zero one other (fit .general (rs (g .ir))) (fit .general (rt (g .ir)))
+  same = same-zero one other (fit .words .general (rs (g .ir))) (fit .words .general (rt (g .ir)))
 
   abbrev compares : ℕ → ℕ → Rows → Rows
   compares k a rest = (16, init) ∷ (256 + k * 4, row x.Rt y.C0 Sum r.Ad m.Nop e.Nop s.Next (256 + k * 4 + 1)) ∷ (256 + k * 4 + 1, row x.Rs y.Ad Dif r.Nop m.Nop e.Nop s.Nul a) ∷ rest
@@ -163,7 +163,7 @@ module _ (deny : Refusals) (lines : ℕ) (b : Book) (dt : ℕ) (fit : Fit b) whe
   turned a v = a / 4 * 4 + oneIf (sign v) * 2 + oneIf (nought v)
 
   one-small : one < 2 ^ 32
-  one-small = fit .general (rs (g .ir))
+  one-small = fit .words .general (rs (g .ir))
 
   abbrev tests : ℕ → ℕ → Rows → Rows
   tests k a rest = (16, init) ∷ (256 + k * 4, tester a) ∷ rest
@@ -265,7 +265,7 @@ module _ (deny : Refusals) (lines : ℕ) (b : Book) (dt : ℕ) (fit : Fit b) whe
   then = reg (with-link next) (rs (g .ir))
 
   then-small : then < 2 ^ 32
-  then-small = put-small (risen b) 31 (rs (g .ir)) next (below (b .regs .pc + 4)) (fit .general)
+  then-small = put-small (risen b) 31 (rs (g .ir)) next (below (b .regs .pc + 4)) (fit .words .general)
 
   abbrev links : ℕ → ℕ → ℕ → Rows → Rows
   links c d a rest = (16, init) ∷ (260, decides) ∷ (c, linking d) ∷ (d, tester a) ∷ rest

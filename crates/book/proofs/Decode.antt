@@ -1,14 +1,12 @@
 -- Every instruction word is decoded to a path of rows. Assumes nothing.
 use mathlib.Core.Bool.{Bool, true, false, cond, not}
-use mathlib.Core.List.{List, [], _∷_}
-use mathlib.Core.Path.{_≡_, refl, sym, ap, subst, _∙_}
-use Prim.Native.Nat.{ℕ, _+_, _*_, _%_, _^_, _<_}
+use mathlib.Core.Path.{_≡_, refl}
+use Prim.Native.Nat.{ℕ}
 use native.Mathlib.Omega.{arith}
 use lib.Dec.{eqb}
 use lib.IntN.{pos}
 use lib.Signed.{leZ, ltZ}
-use Rattle.std.proofs.shelf.Tests.{not-false, not-true}
-use Rattle.std.specs.declared.option.Option.the-variants.{Some, None}
+use Rattle.std.specs.declared.option.Option.the-variants.{None}
 use Rattle.book.specs.Book.{Book, Made, Refusals, done, linked, risen}
 use Rattle.book.specs.Instruction.{Instruction, branches, decoded, functions, opcodes, systems, under}
 use Rattle.book.specs.Length.{long}
@@ -19,7 +17,7 @@ use Rattle.book.proofs.Loads.{loads-byte-plain, loads-byte-signed, loads-half-
 use Rattle.book.proofs.Stores.{stores-byte, stores-half, stores-word}
 use Rattle.book.proofs.System.{breaks, calls-system, moves-from-bar, moves-from-cr, moves-from-epc, moves-from-none, moves-from-sr, moves-to-bar, moves-to-cr, moves-to-epc, moves-to-none, moves-to-sr, returns, unassigned-function, unassigned-opcode}
 use Rattle.book.proofs.Straight.{adds-immediate, computes, computes-checked, computes-pair, computes-plain, computes-signed, loads-upper, moves-from-hi, moves-from-lo, moves-to-hi, moves-to-lo, shifts-by, shifts-fixed}
-use Rattle.book.proofs.Upto.{Upto, among}
+use Rattle.book.proofs.Upto.{among}
 use Rattle.book.proofs.Walk.{Reaches, below}
 use Rattle.microprogram.specs.Operation.{signed}
 use Rattle.microprogram.specs.Registers.{Regs, reg}

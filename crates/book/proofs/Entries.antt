@@ -86,7 +86,7 @@ module _ (deny : Refusals) (lines : ℕ) (b : Book) (dt : ℕ) (fit : Fit b) whe
   enters-walk : (c epc : ℕ) → c < 16 → walk deny lines ((27, bars) ∷ []) (spot (enters-regs c epc) (noted (cause (caused c (g .cr))) epc (b .ledger)) (b .bytes) (b .lines) dt 27) ≡ ending lines (fetches deny (enters b c epc)) dt
   enters-walk c epc h =
       ap (λ (k : ℕ). walk deny lines ((27, bars) ∷ []) (spot (enters-regs c epc) (noted k epc (b .ledger)) (b .bytes) (b .lines) dt 27)) (entered-code c (g .cr) h)
-      ∙ barring deny lines (enters-regs c epc) (noted c epc (b .ledger)) (b .bytes) (b .lines) dt 27 (fit .ad)
+      ∙ barring deny lines (enters-regs c epc) (noted c epc (b .ledger)) (b .bytes) (b .lines) dt 27 (fit .words .ad)
 
   abbrev excepts-rows : (n : ℕ) → Rows
   excepts-rows n = (n, excepts-row) ∷ (25, row x.Pc y.C4 Dif r.Epc m.Nop e.Nop s.Next 26) ∷ (26, vector) ∷ (27, bars) ∷ []
@@ -103,7 +103,7 @@ module _ (deny : Refusals) (lines : ℕ) (b : Book) (dt : ℕ) (fit : Fit b) whe
 
   interrupts-walk : walk deny lines interrupts-rows (stand b dt 18 None) ≡ ending lines (fetches deny (made deny b Event.interrupt)) dt
   interrupts-walk =
-      ap (λ (k : ℕ). walk deny lines ((27, bars) ∷ []) (spot (enters-regs 0 k) (noted (cause (caused 0 (g .cr))) k (b .ledger)) (b .bytes) (b .lines) dt 27)) (plus-nothing (g .pc) (fit .pc))
+      ap (λ (k : ℕ). walk deny lines ((27, bars) ∷ []) (spot (enters-regs 0 k) (noted (cause (caused 0 (g .cr))) k (b .ledger)) (b .bytes) (b .lines) dt 27)) (plus-nothing (g .pc) (fit .words .pc))
       ∙ enters-walk 0 (g .pc) (omega arith)
 
   pub interrupts : Reaches deny lines b dt 18 None 4 (made deny b Event.interrupt)

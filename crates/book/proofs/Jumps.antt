@@ -7,20 +7,17 @@ use native.Mathlib.Omega.{arith}
 use lib.Bits.{bitOr}
 use lib.Dec.{eqb}
 use lib.ListN.{getD, set}
-use Rattle.bus.specs.Request.{wordOf}
 use Rattle.std.proofs.shelf.Bits.{or-lt}
-use Rattle.std.specs.declared.option.Option.{Option}
 use Rattle.std.specs.declared.option.Option.the-variants.{None}
 use Rattle.book.specs.Book.{Book, Refusals, did, done, fetches, goesTo, met, risen}
 use Rattle.book.specs.Instruction.{Instruction}
 use Rattle.book.specs.Instant.{World}
 use Rattle.book.specs.Path.{Fit, stand}
-use Rattle.book.proofs.Walk.{Rows, amid, ending, fetching, plus-nothing, row, split, walk, init, special, fetch, below, Reaches}
+use Rattle.book.proofs.Walk.{Rows, amid, ending, fetching, plus-nothing, row, walk, init, special, fetch, below, Reaches}
 use Rattle.microprogram.specs.Cycle.{misplaced, when}
 use Rattle.microprogram.specs.Registers.{Regs, put, reg, withAd, withPc}
 use Rattle.microprogram.specs.Rows.{rows}
 use Rattle.microprogram.specs.Word.{function, opcode, rd, rs, target}
-use Rattle.microprogram.specs.declared.fault.Fault.{Fault}
 use Rattle.microprogram.specs.declared.fault.Fault.the-variants as f
 use Rattle.microprogram.specs.declared.operation.Operation.the-variants.{Sum, Or}
 use Rattle.microprogram.specs.declared.row.Destination.the-variants as r
@@ -64,7 +61,7 @@ pub put-small : (g : Regs) (i j v : ℕ) → v < 2 ^ 32 → ((n : ℕ) → reg g
 put-small g i j v small h = put-if (g .general) i j v small h (eqb i 0)
 
 -- the target of a jump is a word
-joined-small : (pc ir : ℕ) → pc < 2 ^ 32 → bitOr (pc / 2 ^ 28 * 2 ^ 28) (target ir) < 2 ^ 32
+pub joined-small : (pc ir : ℕ) → pc < 2 ^ 32 → bitOr (pc / 2 ^ 28 * 2 ^ 28) (target ir) < 2 ^ 32
 joined-small pc ir h = or-lt 32 (pc / 2 ^ 28 * 2 ^ 28) (target ir) (omega arith) (omega arith)
 
 module _ (deny : Refusals) (lines : ℕ) (b : Book) (dt : ℕ) (fit : Fit b) where
@@ -85,8 +82,8 @@ module _ (deny : Refusals) (lines : ℕ) (b : Book) (dt : ℕ) (fit : Fit b) whe
 
   jumps-register-walk : walk deny lines jumps-register-rows (stand b dt 16 None) ≡ ending lines (fetches deny (done deny b Instruction.jumpRegister (risen b))) dt
   jumps-register-walk =
-      ap (λ t. walk deny lines after (landing b dt (risen b) t)) (plus-nothing (reg g (rs (g .ir))) (fit .general (rs (g .ir))))
-      ∙ lands deny lines b dt (risen b) (reg g (rs (g .ir))) (fit .general (rs (g .ir)))
+      ap (λ t. walk deny lines after (landing b dt (risen b) t)) (plus-nothing (reg g (rs (g .ir))) (fit .words .general (rs (g .ir))))
+      ∙ lands deny lines b dt (risen b) (reg g (rs (g .ir))) (fit .words .general (rs (g .ir)))
 
   pub jumps-register : (o : opcode (g .ir) ≡ 0) (fe : function (g .ir) ≡ 8) → Reaches deny lines b dt 16 None 5 (done deny b Instruction.jumpRegister (risen b))
   unfolding rows
@@ -97,7 +94,7 @@ module _ (deny : Refusals) (lines : ℕ) (b : Book) (dt : ℕ) (fit : Fit b) whe
   with-link n v = put n v (risen b)
 
   link-small : (n k : ℕ) → reg (with-link n next) k < 2 ^ 32
-  link-small n k = put-small (risen b) n k next (below (b .regs .pc + 4)) (fit .general)
+  link-small n k = put-small (risen b) n k next (below (b .regs .pc + 4)) (fit .words .general)
 
   abbrev jumps-link-register-rows : Rows
   jumps-link-register-rows = (16, init) ∷ (256, special) ∷ (548, row x.Pc y.C0 Sum r.Rd m.Nop e.Nop s.Next 544) ∷ (544, row x.Rs y.C0 Sum r.Ad m.Nop e.If s.Next 31) ∷ after

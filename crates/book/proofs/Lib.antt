@@ -2,6 +2,7 @@ mod Arrive
 mod Branches
 mod Decode
 mod Entries
+mod Fits
 mod Jumps
 mod Loads
 mod Longest

@@ -5,10 +5,9 @@ use Prim.Native.Nat.{ℕ, _≤_}
 use native.Mathlib.Omega.{arith}
 use Rattle.std.proofs.shelf.Tests.{cases-eq}
 use Rattle.std.specs.declared.option.Option.{Option}
-use Rattle.std.specs.declared.option.Option.the-variants.{Some, None}
 use Rattle.book.specs.Book.{Book, Event, Refusals, made}
 use Rattle.book.specs.Length.{lengthOf}
-use Rattle.book.specs.Path.{At, Fit, Stands, StepsArePaths, Walks, stand}
+use Rattle.book.specs.Path.{At, Fit, StepsArePaths, Walks}
 use Rattle.book.proofs.Arrive.{walks}
 use Rattle.book.proofs.Decode.{decodes}
 use Rattle.book.proofs.Entries.{excepts, excepts-row, interrupts, resets, resets-row}

@@ -6,7 +6,6 @@ use Rattle.bus.specs.Meaning.{after, stored}
 use Rattle.bus.specs.Request.{first, size, wordOf}
 use Rattle.bus.specs.declared.request.Action.{Action}
 use Rattle.bus.specs.declared.request.Action.the-variants as action
-use Rattle.bus.specs.declared.request.Width.{Width}
 use Rattle.std.specs.declared.option.Option.the-variants.{Some}
 use Rattle.book.specs.Book.{Refusals}
 use Rattle.book.specs.Instant.{StillKeeps, changed, still}

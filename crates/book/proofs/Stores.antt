@@ -2,7 +2,7 @@
 use mathlib.Core.Bool.{Bool, true, false, cond}
 use mathlib.Core.List.{[], _∷_}
 use mathlib.Core.Path.{_≡_, refl, ap, _∙_}
-use Prim.Native.Nat.{ℕ, _+_, _-_, _*_, _%_, _^_}
+use Prim.Native.Nat.{ℕ, _+_, _*_, _%_, _^_}
 use Rattle.bus.specs.Meaning.{stored, wordAt}
 use Rattle.bus.specs.Request.{first, size, wordOf}
 use Rattle.bus.specs.declared.request.Answer.the-variants.{BusError, Done}

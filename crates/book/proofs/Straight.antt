@@ -1,27 +1,26 @@
 -- Instructions that go straight on. Assumes nothing.
-use mathlib.Core.Bool.{Bool, true, false, cond, not, _&&_, _||_}
-use mathlib.Core.List.{List, [], _∷_}
-use mathlib.Core.Path.{_≡_, refl, sym, ap, _∙_}
-use Prim.Native.Nat.{ℕ, _+_, _-_, _*_, _/_, _%_, _^_, _<_}
+use mathlib.Core.Bool.{Bool, false}
+use mathlib.Core.List.{[], _∷_}
+use mathlib.Core.Path.{_≡_, refl, ap, _∙_}
+use Prim.Native.Nat.{ℕ, _+_, _-_, _*_, _%_, _^_, _<_}
 use native.Mathlib.Omega.{arith}
 use lib.Bits.{bitAnd}
-use lib.Dec.{eqb, ltb}
+use lib.Dec.{ltb}
 use Rattle.bus.specs.Request.{wordOf}
 use Rattle.std.proofs.shelf.Bits.{and-comm, and-mask}
 use Rattle.std.proofs.shelf.Tests.{cond-both}
-use Rattle.std.specs.declared.option.Option.the-variants.{Some, None}
-use Rattle.book.specs.Book.{Book, Refusals, address, done, fetches, risen}
+use Rattle.std.specs.declared.option.Option.the-variants.{None}
+use Rattle.book.specs.Book.{Book, Refusals, done, fetches, risen}
 use Rattle.book.specs.Instruction.{Instruction}
 use Rattle.book.specs.Instant.{World}
 use Rattle.book.specs.Path.{Fit, stand}
-use Rattle.book.proofs.Walk.{Rows, Leads, ending, nothing-plus, plus-nothing, row, rs-word, rt-word, split, walk, init, special, fetch, below, amid, Reaches}
-use Rattle.microprogram.specs.Cycle.{barred, misplaced}
+use Rattle.book.proofs.Walk.{Rows, ending, nothing-plus, plus-nothing, row, rs-word, rt-word, split, walk, init, special, below, amid, Reaches}
 use Rattle.microprogram.specs.Operation.{overflow, result}
-use Rattle.microprogram.specs.Registers.{Regs, put, reg, withAd, withPc}
+use Rattle.microprogram.specs.Registers.{Regs, reg, withAd}
 use Rattle.microprogram.specs.Rows.{rowAt, rows}
-use Rattle.microprogram.specs.Word.{bit, distance, extended, function, immediate, opcode, rd, rs, rt, shift, target, user}
+use Rattle.microprogram.specs.Word.{extended, function, immediate, opcode, rs, rt}
 use Rattle.microprogram.specs.declared.operation.Operation.{Operation}
-use Rattle.microprogram.specs.declared.operation.Operation.the-variants.{Sum, Dif, And, Or, Sll, Sra, Srl}
+use Rattle.microprogram.specs.declared.operation.Operation.the-variants.{Sum, And, Sll}
 use Rattle.microprogram.specs.declared.row.Destination.the-variants as r
 use Rattle.microprogram.specs.declared.row.Detection.the-variants as e
 use Rattle.microprogram.specs.declared.row.OperandX.the-variants as x
@@ -133,7 +132,7 @@ module _ (deny : Refusals) (lines : ℕ) (b : Book) (dt : ℕ) (fit : Fit b) whe
   moves-from-hi-rows = (16, init) ∷ (256, special) ∷ (576, row x.Hi y.C0 Sum r.Rd m.If e.Ibe s.Rie 16) ∷ []
 
   moves-from-hi-walk : walk deny lines (moves-from-hi-rows) (stand b dt 16 None) ≡ ending lines (fetches deny (done deny b Instruction.moveFromHi (risen b))) dt
-  moves-from-hi-walk = split unfetched (λ q. simp (q, plus-nothing (g .hi) (fit .hi))) (λ q. simp (q, plus-nothing (g .hi) (fit .hi)))
+  moves-from-hi-walk = split unfetched (λ q. simp (q, plus-nothing (g .hi) (fit .words .hi))) (λ q. simp (q, plus-nothing (g .hi) (fit .words .hi)))
 
   pub moves-from-hi : (o : opcode (g .ir) ≡ 0) (fe : function (g .ir) ≡ 16) → Reaches deny lines b dt 16 None 3 (done deny b Instruction.moveFromHi (risen b))
   unfolding rows
@@ -153,7 +152,7 @@ module _ (deny : Refusals) (lines : ℕ) (b : Book) (dt : ℕ) (fit : Fit b) whe
   moves-from-lo-rows = (16, init) ∷ (256, special) ∷ (584, row x.Lo y.C0 Sum r.Rd m.If e.Ibe s.Rie 16) ∷ []
 
   moves-from-lo-walk : walk deny lines (moves-from-lo-rows) (stand b dt 16 None) ≡ ending lines (fetches deny (done deny b Instruction.moveFromLo (risen b))) dt
-  moves-from-lo-walk = split unfetched (λ q. simp (q, plus-nothing (g .lo) (fit .lo))) (λ q. simp (q, plus-nothing (g .lo) (fit .lo)))
+  moves-from-lo-walk = split unfetched (λ q. simp (q, plus-nothing (g .lo) (fit .words .lo))) (λ q. simp (q, plus-nothing (g .lo) (fit .words .lo)))
 
   pub moves-from-lo : (o : opcode (g .ir) ≡ 0) (fe : function (g .ir) ≡ 18) → Reaches deny lines b dt 16 None 3 (done deny b Instruction.moveFromLo (risen b))
   unfolding rows

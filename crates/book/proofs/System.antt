@@ -6,7 +6,6 @@ use Prim.Native.Nat.{ℕ, _+_, _*_, _%_, _^_, _<_}
 use native.Mathlib.Omega.{arith}
 use lib.Dec.{eqb}
 use Rattle.bus.specs.Request.{wordOf}
-use Rattle.std.specs.declared.option.Option.{Option}
 use Rattle.std.specs.declared.option.Option.the-variants.{Some, None}
 use Rattle.book.specs.Book.{Book, Made, Refusals, did, done, fetches, fromSystem, met, privileged, risen, toSr, toSystem}
 use Rattle.book.specs.Instruction.{Instruction, under}
@@ -17,7 +16,6 @@ use Rattle.microprogram.specs.Cycle.{allowed, flagged, when}
 use Rattle.microprogram.specs.Registers.{Regs, put, reg, withBar, withCr, withEpc, withIr, withSr}
 use Rattle.microprogram.specs.Rows.{rowAt, rows}
 use Rattle.microprogram.specs.Word.{bit, causes, system, function, opcode, restored, rt, user}
-use Rattle.microprogram.specs.declared.fault.Fault.{Fault}
 use Rattle.microprogram.specs.declared.fault.Fault.the-variants as f
 use Rattle.microprogram.specs.declared.operation.Operation.the-variants.{Sum}
 use Rattle.microprogram.specs.declared.row.Destination.the-variants as r
@@ -141,7 +139,7 @@ module _ (deny : Refusals) (lines : ℕ) (b : Book) (dt : ℕ) (fit : Fit b) whe
   moves-from-bar-rows = (16, init) ∷ (320, copro) ∷ (128, mfc0) ∷ (152, row x.Bar y.C0 Sum r.Rt m.If e.Ibe s.Rie 16) ∷ []
 
   moves-from-bar-last : (n : ℕ) → walk deny lines ((152, row x.Bar y.C0 Sum r.Rt m.If e.Ibe s.Rie 16) ∷ []) (amid b (risen b) dt None n) ≡ ending lines (fetches deny (fromSystem b (risen b) 8)) dt
-  moves-from-bar-last n = split unfetched (λ q. simp (q, plus-nothing (g .bar) (fit .bar))) (λ q. simp (q, plus-nothing (g .bar) (fit .bar)))
+  moves-from-bar-last n = split unfetched (λ q. simp (q, plus-nothing (g .bar) (fit .words .bar))) (λ q. simp (q, plus-nothing (g .bar) (fit .words .bar)))
 
   moves-from-bar-walk : walk deny lines moves-from-bar-rows (stand b dt 16 None) ≡ ending lines (fetches deny (done deny b (Instruction.moveFromSystem 8) (risen b))) dt
   moves-from-bar-walk = moved-mode ((152, row x.Bar y.C0 Sum r.Rt m.If e.Ibe s.Rie 16) ∷ []) (144 + system (g .ir)) (fromSystem b (risen b) 8) (moves-from-bar-last (144 + system (g .ir))) refl (user (g .sr))
@@ -154,7 +152,7 @@ module _ (deny : Refusals) (lines : ℕ) (b : Book) (dt : ℕ) (fit : Fit b) whe
   moves-from-sr-rows = (16, init) ∷ (320, copro) ∷ (128, mfc0) ∷ (156, row x.Sr y.C0 Sum r.Rt m.If e.Ibe s.Rie 16) ∷ []
 
   moves-from-sr-last : (n : ℕ) → walk deny lines ((156, row x.Sr y.C0 Sum r.Rt m.If e.Ibe s.Rie 16) ∷ []) (amid b (risen b) dt None n) ≡ ending lines (fetches deny (fromSystem b (risen b) 12)) dt
-  moves-from-sr-last n = split unfetched (λ q. simp (q, plus-nothing (g .sr) (fit .sr))) (λ q. simp (q, plus-nothing (g .sr) (fit .sr)))
+  moves-from-sr-last n = split unfetched (λ q. simp (q, plus-nothing (g .sr) (fit .words .sr))) (λ q. simp (q, plus-nothing (g .sr) (fit .words .sr)))
 
   moves-from-sr-walk : walk deny lines moves-from-sr-rows (stand b dt 16 None) ≡ ending lines (fetches deny (done deny b (Instruction.moveFromSystem 12) (risen b))) dt
   moves-from-sr-walk = moved-mode ((156, row x.Sr y.C0 Sum r.Rt m.If e.Ibe s.Rie 16) ∷ []) (144 + system (g .ir)) (fromSystem b (risen b) 12) (moves-from-sr-last (144 + system (g .ir))) refl (user (g .sr))
@@ -167,7 +165,7 @@ module _ (deny : Refusals) (lines : ℕ) (b : Book) (dt : ℕ) (fit : Fit b) whe
   moves-from-cr-rows = (16, init) ∷ (320, copro) ∷ (128, mfc0) ∷ (157, row x.Cr y.C0 Sum r.Rt m.If e.Ibe s.Rie 16) ∷ []
 
   moves-from-cr-last : (n : ℕ) → walk deny lines ((157, row x.Cr y.C0 Sum r.Rt m.If e.Ibe s.Rie 16) ∷ []) (amid b (risen b) dt None n) ≡ ending lines (fetches deny (fromSystem b (risen b) 13)) dt
-  moves-from-cr-last n = split unfetched (λ q. simp (q, plus-nothing (causes (b .lines) (g .cr)) (causes-small (b .lines) (g .cr) (fit .cr)))) (λ q. simp (q, plus-nothing (causes (b .lines) (g .cr)) (causes-small (b .lines) (g .cr) (fit .cr))))
+  moves-from-cr-last n = split unfetched (λ q. simp (q, plus-nothing (causes (b .lines) (g .cr)) (causes-small (b .lines) (g .cr) (fit .words .cr)))) (λ q. simp (q, plus-nothing (causes (b .lines) (g .cr)) (causes-small (b .lines) (g .cr) (fit .words .cr))))
 
   moves-from-cr-walk : walk deny lines moves-from-cr-rows (stand b dt 16 None) ≡ ending lines (fetches deny (done deny b (Instruction.moveFromSystem 13) (risen b))) dt
   moves-from-cr-walk = moved-mode ((157, row x.Cr y.C0 Sum r.Rt m.If e.Ibe s.Rie 16) ∷ []) (144 + system (g .ir)) (fromSystem b (risen b) 13) (moves-from-cr-last (144 + system (g .ir))) refl (user (g .sr))
@@ -180,7 +178,7 @@ module _ (deny : Refusals) (lines : ℕ) (b : Book) (dt : ℕ) (fit : Fit b) whe
   moves-from-epc-rows = (16, init) ∷ (320, copro) ∷ (128, mfc0) ∷ (158, row x.Epc y.C0 Sum r.Rt m.If e.Ibe s.Rie 16) ∷ []
 
   moves-from-epc-last : (n : ℕ) → walk deny lines ((158, row x.Epc y.C0 Sum r.Rt m.If e.Ibe s.Rie 16) ∷ []) (amid b (risen b) dt None n) ≡ ending lines (fetches deny (fromSystem b (risen b) 14)) dt
-  moves-from-epc-last n = split unfetched (λ q. simp (q, plus-nothing (g .epc) (fit .epc))) (λ q. simp (q, plus-nothing (g .epc) (fit .epc)))
+  moves-from-epc-last n = split unfetched (λ q. simp (q, plus-nothing (g .epc) (fit .words .epc))) (λ q. simp (q, plus-nothing (g .epc) (fit .words .epc)))
 
   moves-from-epc-walk : walk deny lines moves-from-epc-rows (stand b dt 16 None) ≡ ending lines (fetches deny (done deny b (Instruction.moveFromSystem 14) (risen b))) dt
   moves-from-epc-walk = moved-mode ((158, row x.Epc y.C0 Sum r.Rt m.If e.Ibe s.Rie 16) ∷ []) (144 + system (g .ir)) (fromSystem b (risen b) 14) (moves-from-epc-last (144 + system (g .ir))) refl (user (g .sr))

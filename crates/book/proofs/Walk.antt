@@ -1,13 +1,13 @@
 -- A path of rows, walked one row after another. Assumes nothing.
-use mathlib.Core.Bool.{Bool, true, false, cond, not, _&&_}
+use mathlib.Core.Bool.{Bool, true, false, not, _&&_}
 use mathlib.Core.List.{List, [], _∷_}
-use mathlib.Core.Path.{_≡_, refl, sym, ap, _∙_}
-use Prim.Native.Nat.{ℕ, _+_, _*_, _/_, _%_, _^_, _<_}
+use mathlib.Core.Path.{_≡_, refl, ap, _∙_}
+use Prim.Native.Nat.{ℕ, _+_, _*_, _%_, _^_, _<_}
 use native.Mathlib.Omega.{arith}
 use lib.ListN.{length}
 use Rattle.std.specs.Options.{isSome}
 use Rattle.std.specs.declared.option.Option.{Option}
-use Rattle.std.specs.declared.option.Option.the-variants.{Some, None}
+use Rattle.std.specs.declared.option.Option.the-variants.{None}
 use Rattle.bus.specs.Request.{wordOf}
 use Rattle.book.specs.Book.{Book, Made, Refusals, did, fetches}
 use Rattle.book.specs.Instant.{World, tick, ticked, ticks}
@@ -123,7 +123,7 @@ fetching deny lines b g dt at = split (deny .unreadable (wordOf (g .pc))) (λ q.
 
 -- RT and RS, passed on through a sum with nothing
 pub rt-word : (b : Book) → Fit b → (reg (b .regs) (rt (b .regs .ir)) + 0) % 2 ^ 32 ≡ reg (b .regs) (rt (b .regs .ir))
-rt-word b fit = plus-nothing (reg (b .regs) (rt (b .regs .ir))) (fit .general (rt (b .regs .ir)))
+rt-word b fit = plus-nothing (reg (b .regs) (rt (b .regs .ir))) (fit .words .general (rt (b .regs .ir)))
 
 pub rs-word : (b : Book) → Fit b → (reg (b .regs) (rs (b .regs .ir)) + 0) % 2 ^ 32 ≡ reg (b .regs) (rs (b .regs .ir))
-rs-word b fit = plus-nothing (reg (b .regs) (rs (b .regs .ir))) (fit .general (rs (b .regs .ir)))
+rs-word b fit = plus-nothing (reg (b .regs) (rs (b .regs .ir))) (fit .words .general (rs (b .regs .ir)))

@@ -1,7 +1,6 @@
 -- The instruction book: the machine that knows instructions and no rows. Assumes nothing.
-use mathlib.Core.Bool.{Bool, true, false, cond, not, _||_}
+use mathlib.Core.Bool.{Bool, cond, not}
 use mathlib.Core.List.{List, [], _∷_}
-use mathlib.Core.Path.{_≡_}
 use Prim.Native.Nat.{ℕ, _+_, _-_, _*_, _/_, _%_, _^_}
 use lib.Bits.{bitOr}
 use lib.Dec.{eqb, ltb}
@@ -23,8 +22,7 @@ use Rattle.microprogram.specs.Word.{caused, causes, distance, entered, extended
 use Rattle.microprogram.specs.declared.fault.Fault.{Fault}
 use Rattle.microprogram.specs.declared.fault.Fault.the-variants as f
 use Rattle.microprogram.specs.declared.ledger.Entry.{Entry}
-use Rattle.microprogram.specs.declared.operation.Operation.{Operation}
-use Rattle.microprogram.specs.declared.operation.Operation.the-variants.{Sum, Sll}
+use Rattle.microprogram.specs.declared.operation.Operation.the-variants.{Sum}
 
 -- what the next step will be
 pub data Event : Type 0 where

@@ -1,5 +1,5 @@
 -- Worked cases of the book. Assumes nothing.
-use mathlib.Core.Bool.{Bool, false}
+use mathlib.Core.Bool.{false}
 use mathlib.Core.List.{_∷_}
 use mathlib.Core.Path.{_≡_}
 use Prim.Native.Nat.{ℕ}
@@ -8,7 +8,6 @@ use lib.ListN.{replicate}
 use Rattle.book.specs.Book.{Book, Event, Refusals, step}
 use Rattle.microprogram.specs.Ledger.{blank}
 use Rattle.microprogram.specs.Word.{cause}
-use Rattle.microprogram.specs.declared.fault.Fault.the-variants as f
 
 -- a machine about to run an instruction, with two general registers and SR; all else is zero
 abbrev running : ℕ → ℕ → ℕ → ℕ → ℕ → Book

@@ -1,11 +1,10 @@
 -- The microprogram with a memory that never waits. Assumes nothing.
-use mathlib.Core.Bool.{Bool, cond}
+use mathlib.Core.Bool.{cond}
 use mathlib.Core.Path.{_≡_}
 use Prim.Native.Nat.{ℕ, zero, suc}
 use Rattle.bus.specs.Meaning.{Meaning, after, answer, refused, stored}
 use Rattle.bus.specs.Request.{first, size}
 use Rattle.bus.specs.declared.request.Action.the-variants as action
-use Rattle.bus.specs.declared.request.Answer.{Answer}
 use Rattle.bus.specs.declared.request.Request.{Request}
 use Rattle.std.specs.Options.{mapped}
 use Rattle.std.specs.declared.option.Option.{Option}

@@ -8,7 +8,7 @@ use Rattle.std.specs.declared.option.Option.the-variants.{Some, None}
 use Rattle.book.specs.Book.{Book, Event, Refusals, step}
 use Rattle.book.specs.Instant.{World, ticks}
 use Rattle.book.specs.Length.{lengthOf}
-use Rattle.microprogram.specs.Cycle.{State, ends}
+use Rattle.microprogram.specs.Cycle.{ends}
 use Rattle.microprogram.specs.Registers.{Regs, reg}
 use Rattle.microprogram.specs.Rows.{rowAt}
 use Rattle.microprogram.specs.declared.fault.Fault.{Fault}
@@ -28,19 +28,27 @@ stand b dt row flag =
       bytes = b .bytes;
     }
 
--- registers hold words, and bytes are bytes
+-- registers hold words
+pub record Words (g : Regs) : Type 0 where
+  pub general : (n : ℕ) → reg g n < 2 ^ 32
+  pub pc : g .pc < 2 ^ 32
+  pub hi : g .hi < 2 ^ 32
+  pub lo : g .lo < 2 ^ 32
+  pub sr : g .sr < 2 ^ 32
+  pub cr : g .cr < 2 ^ 32
+  pub epc : g .epc < 2 ^ 32
+  pub bar : g .bar < 2 ^ 32
+  pub ad : g .ad < 2 ^ 32
+  pub ir : g .ir < 2 ^ 32
+
+-- a state of the book whose registers hold words and whose bytes are bytes
 pub record Fit (b : Book) : Type 0 where
-  pub general : (n : ℕ) → reg (b .regs) n < 2 ^ 32
-  pub pc : b .regs .pc < 2 ^ 32
-  pub hi : b .regs .hi < 2 ^ 32
-  pub lo : b .regs .lo < 2 ^ 32
-  pub sr : b .regs .sr < 2 ^ 32
-  pub cr : b .regs .cr < 2 ^ 32
-  pub epc : b .regs .epc < 2 ^ 32
-  pub bar : b .regs .bar < 2 ^ 32
-  pub ad : b .regs .ad < 2 ^ 32
-  pub ir : b .regs .ir < 2 ^ 32
+  pub words : Words (b .regs)
   pub bytes : (address : ℕ) → b .bytes address < 256
+
+-- every step keeps that, so every state of the book that begins so stays so
+abbrev pub StepsFit : Type 0
+StepsFit = (r : Refusals) (lines : ℕ) (b : Book) → Fit b → Fit (step r lines b)
 
 -- the world stands at a state of the book, with some DT
 pub record Stands (b : Book) (s : World) : Type 0 where

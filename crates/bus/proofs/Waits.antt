@@ -1,14 +1,13 @@
 -- What waits leave as it was, and how a request ends that was waited out. Assumes nothing.
-use mathlib.Core.Bool.{Bool, true, false, cond, _||_}
+use mathlib.Core.Bool.{Bool, true, false, cond}
 use mathlib.Core.Path.{_≡_, refl, sym, ap, subst, _∙_}
-use Prim.Native.Nat.{ℕ, zero, suc, _+_, _≤_, _<_}
+use Prim.Native.Nat.{ℕ, zero, suc, _+_, _≤_}
 use native.Mathlib.Omega.{arith}
-use lib.Dec.{ltb}
 use Rattle.std.specs.declared.option.Option.the-variants.{Some, None}
 use Rattle.std.specs.declared.result.Result.{Result}
 use Rattle.std.specs.declared.result.Result.the-variants.{Ok, Err}
 use Rattle.std.proofs.shelf.Tests.{ltb-false}
-use Rattle.bus.specs.Meaning.{Answers, Keeps, Meaning, after, answer, carried, refused, stalled, written}
+use Rattle.bus.specs.Meaning.{Answers, Keeps, Meaning, carried, refused, stalled, written}
 use Rattle.bus.specs.Request.{accessOf, wordOf}
 use Rattle.bus.specs.Settled.{Settles, Waited, ending}
 use Rattle.bus.specs.declared.request.Action.{Action}

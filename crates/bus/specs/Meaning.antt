@@ -1,5 +1,5 @@
 -- What a memory means, and the five points that it keeps. Assumes nothing.
-use mathlib.Core.Bool.{Bool, true, false, cond, _&&_, _||_, not}
+use mathlib.Core.Bool.{Bool, true, cond, _&&_, _||_}
 use mathlib.Core.Path.{_≡_}
 use Prim.Native.Nat.{ℕ, _+_, _-_, _*_, _/_, _%_, _^_, _≤_, _<_}
 use lib.Dec.{leb, ltb}
@@ -7,7 +7,6 @@ use Rattle.std.specs.declared.option.Option.{Option}
 use Rattle.std.specs.declared.option.Option.the-variants.{Some, None}
 use Rattle.bus.specs.Request.{accessOf, size, wordOf, first}
 use Rattle.bus.specs.declared.request.Access.{Access}
-use Rattle.bus.specs.declared.request.Action.{Action}
 use Rattle.bus.specs.declared.request.Action.the-variants as action
 use Rattle.bus.specs.declared.request.Answer.{Answer}
 use Rattle.bus.specs.declared.request.Answer.the-variants.{Wait, BusError, Done}

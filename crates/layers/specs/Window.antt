@@ -6,7 +6,6 @@ use lib.Dec.{ltb}
 use Rattle.std.specs.Orderings.{When}
 use Rattle.bus.specs.Meaning.{Meaning}
 use Rattle.bus.specs.Request.{moved, wordOf}
-use Rattle.bus.specs.declared.request.Access.{Access}
 use Rattle.bus.specs.declared.request.Answer.{Answer}
 use Rattle.bus.specs.declared.request.Answer.the-variants.{BusError}
 use Rattle.bus.specs.declared.request.Request.{Request}

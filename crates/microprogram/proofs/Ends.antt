@@ -1,13 +1,13 @@
 -- The one test over all rows, computed. Assumes nothing.
 use mathlib.Core.Bool.{Bool, true, false, _&&_}
 use mathlib.Core.Logic.{_⊎_, inl, inr}
-use mathlib.Core.Path.{_≡_, refl, subst}
+use mathlib.Core.Path.{_≡_}
 use Prim.Native.Nat.{ℕ, zero, suc, _<_}
 use native.Mathlib.Omega.{arith}
 use lib.Dec.{T}
 use Rattle.std.proofs.shelf.Tests.{cases-eq}
 use Rattle.microprogram.specs.Bounds.{RowsEnd, ending, sound, soundBelow}
-use Rattle.microprogram.specs.Rows.{laid, listing, rows}
+use Rattle.microprogram.specs.Rows.{rows}
 
 left : (a b : Bool) → T (a && b) → T a
 left true b h = tt

@@ -1,12 +1,12 @@
 -- Words and the integers that they stand for. Assumes nothing.
 use mathlib.Core.Path.{_≡_, refl, sym, ap, _∙_}
-use Prim.Native.Nat.{ℕ, zero, suc, _+_, _-_, _*_, _/_, _%_, _^_, _<_, _≤_}
+use Prim.Native.Nat.{ℕ, zero, suc, _*_, _/_, _%_, _^_, _<_, _≤_}
 use native.Mathlib.Nat.{zero-mul}
 use native.Mathlib.Omega.{arith}
-use lib.IntN.{ℤ, natAbs, negsuc, negℤ, pos, _*ℤ_, _-ℤ_}
+use lib.IntN.{ℤ, negsuc, negℤ, pos, _*ℤ_, _-ℤ_}
 use lib.Signed.{mag, quotZ, remZ}
 use mir.Syntax.{w32, w64}
-use mir.Val.{SFits, ofZ, toZ}
+use mir.Val.{SFits, ofZ}
 use Rattle.std.proofs.shelf.Bits.{div-add-mod', mul-le}
 use Rattle.std.proofs.shelf.Signed.{ints, ofZ-toZ, wrapping-mul-bits}
 use Rattle.std.specs.shelf.Signed.{wrapped}

@@ -5,7 +5,6 @@ use Prim.Native.Nat.{ℕ, zero, suc, _+_, _-_, _*_, _/_, _<_}
 use lib.Dec.{T, leb, ltb}
 use Rattle.microprogram.specs.Cycle.{ends}
 use Rattle.microprogram.specs.Rows.{rowAt}
-use Rattle.microprogram.specs.declared.row.Row.{Row}
 use Rattle.microprogram.specs.declared.row.Sequencing.{Sequencing}
 use Rattle.microprogram.specs.declared.row.Sequencing.the-variants as s
 use Rattle.microprogram.specs.declared.row.Transfer.{Transfer}

@@ -1,7 +1,6 @@
 -- One cycle that is not frozen. Assumes nothing.
 use mathlib.Core.Bool.{Bool, true, false, cond, not, _&&_, _||_}
 use mathlib.Core.List.{List}
-use mathlib.Core.Path.{_≡_}
 use Prim.Native.Nat.{ℕ, _+_, _*_, _/_, _%_, _^_}
 use lib.Bits.{bitAnd}
 use lib.Dec.{eqb}
@@ -14,7 +13,7 @@ use Rattle.bus.specs.declared.request.Width.the-variants.{Word, Half, Byte}
 use Rattle.std.specs.Options.{isSome}
 use Rattle.std.specs.declared.option.Option.{Option}
 use Rattle.std.specs.declared.option.Option.the-variants.{Some, None}
-use Rattle.microprogram.specs.Fault.{code, codeOf}
+use Rattle.microprogram.specs.Fault.{codeOf}
 use Rattle.microprogram.specs.Operation.{oneIf, operated}
 use Rattle.microprogram.specs.Ledger.{blank, noted}
 use Rattle.microprogram.specs.Registers.{Regs, held, put, reg, withAd, withBar, withCr, withEpc, withHi, withIr, withLo, withPc, withSr}

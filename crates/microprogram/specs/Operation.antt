@@ -1,10 +1,9 @@
 -- The operation box, in arithmetic on numbers. Assumes nothing.
 use mathlib.Core.Bool.{Bool, false, cond, not}
-use mathlib.Core.Path.{_≡_}
 use Prim.Native.Nat.{ℕ, _+_, _-_, _*_, _/_, _%_, _^_}
 use lib.Bits.{bitAnd, bitOr, bitXor}
-use lib.Dec.{eqb, leb, ltb}
-use lib.IntN.{ℤ, natAbs, negsuc, pos, _*ℤ_, _+ℤ_, _-ℤ_}
+use lib.Dec.{eqb, ltb}
+use lib.IntN.{ℤ, natAbs, pos, _*ℤ_, _+ℤ_, _-ℤ_}
 use lib.Signed.{ltZ, mag, quotZ, shrZ}
 use mir.Syntax.{w32}
 use mir.Val.{toZ}

@@ -1,16 +1,16 @@
 -- Delay keeps the five points. Assumes nothing.
 use mathlib.Core.Bool.{Bool, true, false, cond}
-use mathlib.Core.Logic.{_⊎_, inl, inr}
-use mathlib.Core.Path.{_≡_, refl, sym, ap, subst, subst₃, _∙_}
+use mathlib.Core.Logic.{inl}
+use mathlib.Core.Path.{_≡_, refl, sym, ap, subst, subst₃}
 use Prim.Native.Nat.{ℕ, _+_, _-_, _≤_, _<_, min}
 use native.Mathlib.Omega.{arith}
 use lib.Dec.{ltb}
 use Rattle.std.specs.Orderings.{When}
 use Rattle.std.proofs.shelf.Tests.{and-from, eq-eqb, lt-ltb, ltb-false, ltb-true}
 use Rattle.layers.specs.Delay.{DelaySteps, delay, delayMeans, ended, left, lowered}
-use Rattle.layers.specs.Keeps.Layer.{Beside, Stands, layer, request}
-use Rattle.bus.specs.Meaning.{Answers, Keeps, Meaning, Sound, answer}
-use Rattle.bus.specs.Request.{accessOf, same, kindNumber, wordOf}
+use Rattle.layers.specs.Keeps.Layer.{layer, request}
+use Rattle.bus.specs.Meaning.{Answers, Keeps, Meaning, Sound}
+use Rattle.bus.specs.Request.{accessOf, same, kindNumber}
 use Rattle.layers.specs.declared.delay.Delay.{Delay}
 use Rattle.layers.specs.declared.delay.State.{State}
 use Rattle.layers.specs.declared.delay.State.the-variants.{Idle, Counting}

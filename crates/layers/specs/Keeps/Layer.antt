@@ -1,8 +1,8 @@
 -- What a layer keeps that hands a request on to the memory below it. Assumes nothing.
-use mathlib.Core.Bool.{Bool, true, false, cond, _&&_, _||_}
+use mathlib.Core.Bool.{Bool, true, false, cond, _&&_}
 use mathlib.Core.Logic.{_⊎_, inl, inr}
-use mathlib.Core.Path.{_≡_, refl, sym, ap, ap₂, subst, _∙_}
-use Prim.Native.Nat.{ℕ, _+_, _-_, _*_, _/_, _%_, _^_, _≤_, _<_}
+use mathlib.Core.Path.{_≡_, refl, sym, _∙_}
+use Prim.Native.Nat.{ℕ, _+_, _-_, _%_, _≤_, _<_}
 use native.Mathlib.Nat.{add-zero}
 use native.Mathlib.Omega.{arith}
 use lib.Dec.{leb, ltb}
@@ -13,7 +13,7 @@ use Rattle.bus.specs.declared.request.Access.{Access}
 use Rattle.bus.specs.declared.request.Action.{Action}
 use Rattle.bus.specs.declared.request.Action.the-variants as action
 use Rattle.bus.specs.declared.request.Answer.{Answer}
-use Rattle.bus.specs.declared.request.Answer.the-variants.{Wait, BusError, Done}
+use Rattle.bus.specs.declared.request.Answer.the-variants.{Wait}
 use Rattle.bus.specs.declared.request.Request.{Request}
 use Rattle.bus.specs.declared.request.Width.{Width}
 use Rattle.bus.specs.declared.request.Width.the-variants.{Word, Half, Byte}

@@ -1,10 +1,9 @@
-use mathlib.Core.Path.{_≡_}
-use Prim.Native.Nat.{_+_, _-_}
+use Prim.Native.Nat.{_+_}
 use native.Mathlib.Omega.{arith}
 use borrow.Author.Needs.{needs}
 use lib.ListN.{length}
 use Rattle.std.proofs.shelf.Lists.{length-set}
-use Rattle.bus.specs.Request.{first, wordOf}
+use Rattle.bus.specs.Request.{wordOf}
 use Rattle.memories.proofs.Stored.{filled-word, filled-half, filled-byte, inside, landed}
 use Rattle.memories.proofs.region.write.Needs as need
 

@@ -1,11 +1,10 @@
 use mathlib.Core.Path.{_≡_, _∙_, ap, ap₂}
 use Prim.Native.Nat.{_/_}
-use native.Mathlib.Omega.{arith}
-use lib.IntN.{ℤ, _*ℤ_}
+use lib.IntN.{_*ℤ_}
 use mir.Syntax.{w32, w64}
 use mir.Val.{SFits, ofZ}
 use Rattle.std.proofs.shelf.Signed.{toZ-ofZ}
-use Rattle.microprogram.specs.Operation.{residue, signed}
+use Rattle.microprogram.specs.Operation.{residue}
 use Rattle.microprogram.proofs.Integers.{product-fits, residue-64}
 use Rattle.microprogram.proofs.operation.signed_product_high.Needs as need
 

@@ -1,11 +1,9 @@
 use mathlib.Core.Path.{_∙_, _≡_, ap}
-use Prim.Native.Nat.{_<_, _^_, _*_, _%_}
 use native.Mathlib.Omega.{arith}
-use borrow.Author.Needs.{needs}
 use lib.Signed.{remZ}
 use mir.Syntax.{w32}
 use mir.Val.{SFits, ofZ}
-use Rattle.std.proofs.shelf.Signed.{ofZ-toZ, toZ-ofZ}
+use Rattle.std.proofs.shelf.Signed.{toZ-ofZ}
 use Rattle.std.proofs.shelf.Tests.{ne-eqb}
 use Rattle.microprogram.specs.Operation.{signed, word}
 use Rattle.microprogram.proofs.Integers.{remainder, residue-32}
