@@ -1,11 +1,14 @@
--- Every step of the book leaves words in its registers and bytes in its memory. Assumes nothing.
+-- The book begins with words in its registers and bytes in its memory, and every step keeps that. Assumes nothing.
 use mathlib.Core.Bool.{Bool, true, false, cond, _&&_}
 use mathlib.Core.List.{[], _∷_}
-use Prim.Native.Nat.{ℕ, _+_, _-_, _*_, _%_, _^_, _≤_, _<_}
+use mathlib.Core.Logic.{inl}
+use mathlib.Core.Path.{_≡_, refl}
+use Prim.Native.Nat.{ℕ, zero, suc, _+_, _-_, _*_, _%_, _^_, _≤_, _<_}
 use native.Mathlib.Nat.{div-le-self}
 use native.Mathlib.Omega.{arith}
 use lib.Dec.{eqb, leb, ltb}
 use lib.IntN.{ℤ, negsuc, pos}
+use lib.ListN.{getD, replicate}
 use Rattle.bus.specs.Meaning.{stored, wordAt}
 use Rattle.bus.specs.Request.{wordOf}
 use Rattle.bus.specs.declared.request.Width.{Width}
@@ -15,7 +18,7 @@ use Rattle.std.specs.declared.option.Option.the-variants.{Some, None}
 use Rattle.std.proofs.shelf.Bits.{and-le-l, div-below, mul-lt, or-lt, shr-le, xor-lt}
 use Rattle.book.specs.Book.{Book, Event, Made, Refusals, address, branches, did, done, enters, fetches, fromSystem, goesTo, linked, loads, made, met, raisedByte, raisedHalf, risen, stores, toSr, toSystem, widened}
 use Rattle.book.specs.Instruction.{Instruction, decoded, under}
-use Rattle.book.specs.Path.{Fit, StepsFit, Words}
+use Rattle.book.specs.Path.{Begins, Fit, StepsFit, Words}
 use Rattle.book.proofs.Jumps.{joined-small, put-small}
 use Rattle.book.proofs.Straight.{extended-small}
 use Rattle.book.proofs.Walk.{below}
@@ -297,3 +300,29 @@ pub steps-fit : StepsFit
 steps-fit r lines b fit =
     let h : Good (fetches r (made r b (b .event))) = fetched-fit r (made r b (b .event)) (made r b (b .event) .fault) (made-fit r b (b .event) fit) in
     record { words = h .words; bytes = h .bytes }
+
+zeros : (k n : ℕ) → getD {A = ℕ} (replicate k 0) n 0 ≡ 0
+zeros zero n = refl
+zeros (suc k) zero = refl
+zeros (suc k) (suc n) = zeros k n
+
+pub begins : Begins
+begins bytes k =
+    let small : 0 < 2 ^ 32 = omega arith in (
+      record {
+        words = record {
+          general = λ n. omega (arith, zeros 32 n);
+          pc = small;
+          hi = small;
+          lo = small;
+          sr = small;
+          cr = small;
+          epc = small;
+          bar = small;
+          ad = small;
+          ir = small;
+        };
+        bytes = k;
+      },
+      record { dt = 0; row = 0; flag = None; at = inl refl; is = refl },
+    )

@@ -5,6 +5,7 @@ use Prim.Native.Nat.{ℕ, _+_, _-_, _*_, _/_, _%_, _^_}
 use lib.Bits.{bitOr}
 use lib.Dec.{eqb, ltb}
 use lib.IntN.{pos}
+use lib.ListN.{replicate}
 use lib.Signed.{ltZ, leZ}
 use Rattle.bus.specs.Meaning.{stored, wordAt}
 use Rattle.bus.specs.Request.{first, size, wordOf}
@@ -15,7 +16,7 @@ use Rattle.std.specs.declared.option.Option.the-variants.{Some, None}
 use Rattle.book.specs.Instruction.{Instruction, decoded, under}
 use Rattle.microprogram.specs.Cycle.{barred, interrupting, misplaced, resetting}
 use Rattle.microprogram.specs.Fault.{code}
-use Rattle.microprogram.specs.Ledger.{noted}
+use Rattle.microprogram.specs.Ledger.{blank, noted}
 use Rattle.microprogram.specs.Operation.{overflow, result, signed}
 use Rattle.microprogram.specs.Registers.{Regs, put, reg, withAd, withBar, withCr, withEpc, withHi, withIr, withLo, withPc, withSr}
 use Rattle.microprogram.specs.Word.{caused, causes, distance, entered, extended, immediate, rd, restored, rs, rt, shift, target, user}
@@ -43,6 +44,17 @@ pub record Book : Type 0 where
   pub bytes : ℕ → ℕ
   pub lines : ℕ
   pub event : Event
+
+-- the first state, at power-up: the memory's bytes, event reset, and all else zero
+abbrev pub begun : (ℕ → ℕ) → Book
+begun bytes =
+    record {
+      regs = record { general = replicate 32 0; pc = 0; hi = 0; lo = 0; sr = 0; cr = 0; epc = 0; bar = 0; ad = 0; ir = 0 };
+      ledger = replicate 16 blank;
+      bytes = bytes;
+      lines = 0;
+      event = reset;
+    }
 
 -- a step before its fetch: what it made, the fault that stands, and the SR that the next event reads
 pub record Made : Type 0 where

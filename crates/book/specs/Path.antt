@@ -5,10 +5,10 @@ use mathlib.Core.Path.{_≡_}
 use Prim.Native.Nat.{ℕ, _+_, _^_, _<_, _≤_}
 use Rattle.std.specs.declared.option.Option.{Option}
 use Rattle.std.specs.declared.option.Option.the-variants.{Some, None}
-use Rattle.book.specs.Book.{Book, Event, Refusals, step}
+use Rattle.book.specs.Book.{Book, Event, Refusals, begun, step}
 use Rattle.book.specs.Instant.{World, ticks}
 use Rattle.book.specs.Length.{lengthOf}
-use Rattle.microprogram.specs.Cycle.{ends}
+use Rattle.microprogram.specs.Cycle.{ends, powered}
 use Rattle.microprogram.specs.Registers.{Regs, reg}
 use Rattle.microprogram.specs.Rows.{rowAt}
 use Rattle.microprogram.specs.declared.fault.Fault.{Fault}
@@ -57,6 +57,10 @@ pub record Stands (b : Book) (s : World) : Type 0 where
   pub flag : Option Fault
   pub at : At (b .event) row flag
   pub is : s ≡ stand b dt row flag
+
+-- the book begins so over any bytes, and at power-up the microprogram stands at its first state
+abbrev pub Begins : Type 0
+Begins = (bytes : ℕ → ℕ) → ((address : ℕ) → bytes address < 256) → Fit (begun bytes) × Stands (begun bytes) (record { state = powered; bytes = bytes })
 
 -- whether the cycle that a world is about to make ends a path
 abbrev pub endsPath : World → Bool
