@@ -22,6 +22,7 @@ use Rattle.book.specs.Path.{Begins, Fit, StepsFit, Words}
 use Rattle.book.proofs.Jumps.{joined-small, put-small}
 use Rattle.book.proofs.Straight.{extended-small}
 use Rattle.book.proofs.Walk.{below}
+use Rattle.microprogram.proofs.Integers.{residue-below}
 use Rattle.microprogram.specs.Cycle.{misplaced}
 use Rattle.microprogram.specs.Fault.{code}
 use Rattle.microprogram.specs.Operation.{oneIf, residue, result}
@@ -52,21 +53,17 @@ use Rattle.microprogram.specs.declared.operation.Operation.the-variants.{
   Dsr,
 }
 
--- what holds of two numbers holds of the one that a test picks
-pick : (P : ℕ → Type 0) (t : Bool) (m n : ℕ) → P m → P n → P (cond t m n)
-pick P true m n here there = here
-pick P false m n here there = there
-
-residue-32 : (z : ℤ) → residue z (2 ^ 32) < 2 ^ 32
-residue-32 (pos n) = omega arith
-residue-32 (negsuc n) = omega arith
+-- what holds of two values holds of the one that a test picks
+pick : {A : Type 0} (P : A → Type 0) {x y : A} (t : Bool) → P x → P y → P (cond t x y)
+pick P true here there = here
+pick P false here there = there
 
 residue-64 : (z : ℤ) → residue z (2 ^ 64) < 2 ^ 64
 residue-64 (pos n) = omega arith
 residue-64 (negsuc n) = omega arith
 
 one-small : (t : Bool) → oneIf t < 2 ^ 32
-one-small t = pick (λ n. n < 2 ^ 32) t 1 0 (omega arith) (omega arith)
+one-small t = pick (λ n. n < 2 ^ 32) t (omega arith) (omega arith)
 
 -- every operation gives a word
 result-small : (op : Operation) (x y : ℕ) → x < 2 ^ 32 → y < 2 ^ 32 → result op x y < 2 ^ 32
@@ -78,17 +75,17 @@ result-small Xor x y p q = xor-lt 32 x y p q
 result-small Nor x y p q = omega arith
 result-small Sll x y p q = below _
 result-small Srl x y p q = omega (arith, shr-le x (y % 32))
-result-small Sra x y p q = residue-32 _
+result-small Sra x y p q = residue-below _
 result-small Sltu x y p q = one-small _
 result-small Slt x y p q = one-small _
 result-small Mul x y p q = below _
 result-small Muh x y p q = div-below (x * y) (2 ^ 32) (2 ^ 32) (omega arith) (mul-lt x y (2 ^ 32) (2 ^ 32) p q)
-result-small Msl x y p q = residue-32 _
+result-small Msl x y p q = residue-below _
 result-small Msh x y p q = div-below _ (2 ^ 32) (2 ^ 32) (omega arith) (residue-64 _)
-result-small Duq x y p q = pick (λ n. n < 2 ^ 32) (eqb y 0) _ _ (omega arith) (omega (arith, div-le-self x y))
-result-small Dur x y p q = pick (λ n. n < 2 ^ 32) (eqb y 0) _ _ p (omega arith)
-result-small Dsq x y p q = pick (λ n. n < 2 ^ 32) (eqb y 0) _ _ (omega arith) (residue-32 _)
-result-small Dsr x y p q = pick (λ n. n < 2 ^ 32) (eqb y 0) _ _ p (residue-32 _)
+result-small Duq x y p q = pick (λ n. n < 2 ^ 32) (eqb y 0) (omega arith) (omega (arith, div-le-self x y))
+result-small Dur x y p q = pick (λ n. n < 2 ^ 32) (eqb y 0) p (omega arith)
+result-small Dsq x y p q = pick (λ n. n < 2 ^ 32) (eqb y 0) (omega arith) (residue-below _)
+result-small Dsr x y p q = pick (λ n. n < 2 ^ 32) (eqb y 0) p (residue-below _)
 
 shift-small : (ir : ℕ) → shift ir < 2 ^ 32
 shift-small ir = omega arith
@@ -144,10 +141,6 @@ pub record Good (m : Made) : Type 0 where
   pub words : Words (m .regs)
   pub bytes : (x : ℕ) → m .bytes x < 256
 
-choose : {m n : Made} (t : Bool) → Good m → Good n → Good (cond t m n)
-choose true here there = here
-choose false here there = there
-
 did-fit : (b : Book) (g : Regs) → Words g → ((x : ℕ) → b .bytes x < 256) → Good (did b g)
 did-fit b g h k = record { words = h; bytes = k }
 
@@ -156,10 +149,10 @@ met-fit b c g h k = record { words = h; bytes = k }
 
 goes-fit : (b : Book) (t : ℕ) (g : Regs) → t < 2 ^ 32 → Words g → ((x : ℕ) → b .bytes x < 256) → Good (goesTo b t g)
 goes-fit b t g small h k =
-    choose (misplaced 4 (g .sr) t) (met-fit b f.Adel _ (with-ad g t small h) k) (did-fit b _ (with-pc _ t small (with-ad g t small h)) k)
+    pick Good (misplaced 4 (g .sr) t) (met-fit b f.Adel _ (with-ad g t small h) k) (did-fit b _ (with-pc _ t small (with-ad g t small h)) k)
 
 branch-fit : (b : Book) (taken : Bool) (g : Regs) → Words g → ((x : ℕ) → b .bytes x < 256) → Good (branches b taken g)
-branch-fit b taken g h k = choose taken (goes-fit b _ g (below _) h k) (did-fit b g h k)
+branch-fit b taken g h k = pick Good taken (goes-fit b _ g (below _) h k) (did-fit b g h k)
 
 word-small : (byte : ℕ → ℕ) → ((x : ℕ) → byte x < 256) → (p : ℕ) → wordAt byte p < 2 ^ 32
 word-small byte k p = omega (arith, k p, k (p + 1), k (p + 2), k (p + 3))
@@ -167,22 +160,22 @@ word-small byte k p = omega (arith, k p, k (p + 1), k (p + 2), k (p + 3))
 -- a byte, or a half, as a word
 widened-small : (sign : Bool) (n v : ℕ) → 2 ^ n ≤ 2 ^ 32 → v < 2 ^ n → widened sign n v < 2 ^ 32
 widened-small sign n v few small =
-    pick (λ m. m < 2 ^ 32) sign _ v (pick (λ m. m < 2 ^ 32) (ltb v (2 ^ (n - 1))) v _ (omega arith) (omega arith)) (omega arith)
+    pick (λ m. m < 2 ^ 32) sign (pick (λ m. m < 2 ^ 32) (ltb v (2 ^ (n - 1))) (omega arith) (omega arith)) (omega arith)
 
 loads-fit : (r : Refusals) (b : Book) (bad : Bool) (value left : ℕ → ℕ → ℕ) (g : Regs) → value (address g) (wordAt (b .bytes) (wordOf (address g))) < 2 ^ 32 → left (address g) (wordAt (b .bytes) (wordOf (address g))) < 2 ^ 32 → Words g → ((x : ℕ) → b .bytes x < 256) → Good (loads r b bad value left g)
 loads-fit r b bad value left g small rest h k =
     let placed : Words (withAd (address g) g) = with-ad g (address g) (below _) h in
-    choose bad (met-fit b f.Adel _ placed k)
-    (choose (r .unreadable (wordOf (address g))) (met-fit b f.Dbe _ placed k) (did-fit b _ (puts _ (rt (g .ir)) _ small (with-ad g _ rest h)) k))
+    pick Good bad (met-fit b f.Adel _ placed k)
+    (pick Good (r .unreadable (wordOf (address g))) (met-fit b f.Dbe _ placed k) (did-fit b _ (puts _ (rt (g .ir)) _ small (with-ad g _ rest h)) k))
 
 stored-small : (from n d : ℕ) (byte : ℕ → ℕ) → ((x : ℕ) → byte x < 256) → (x : ℕ) → stored from n d byte x < 256
-stored-small from n d byte k x = pick (λ m. m < 256) (leb from x && ltb x (from + n)) _ _ (omega arith) (k x)
+stored-small from n d byte k x = pick (λ m. m < 256) (leb from x && ltb x (from + n)) (omega arith) (k x)
 
 stores-fit : (r : Refusals) (b : Book) (bad : Bool) (width : Width) (g : Regs) → Words g → ((x : ℕ) → b .bytes x < 256) → Good (stores r b bad width g)
 stores-fit r b bad width g h k =
     let placed : Words (withAd (address g) g) = with-ad g (address g) (below _) h in
-    choose bad (met-fit b f.Ades _ placed k)
-    (choose (r .unwritable (wordOf (address g))) (met-fit b f.Dbe _ placed k) (record { words = placed; bytes = stored-small _ _ _ (b .bytes) k }))
+    pick Good bad (met-fit b f.Ades _ placed k)
+    (pick Good (r .unwritable (wordOf (address g))) (met-fit b f.Dbe _ placed k) (record { words = placed; bytes = stored-small _ _ _ (b .bytes) k }))
 
 either : (m n : Made) (t : Bool) → Good m → Good n → Good (elim t [ true ↦ m | false ↦ n ])
 either m n true here there = here
@@ -216,7 +209,7 @@ to-fit b g n h k =
 
 -- a result that may overflow
 checked-fit : (b : Book) (over : Bool) (n v : ℕ) (g : Regs) → v < 2 ^ 32 → Words g → ((x : ℕ) → b .bytes x < 256) → Good (cond over (met b f.Ovf (withAd v g)) (did b (put n v (withAd v g))))
-checked-fit b over n v g small h k = let placed : Words (withAd v g) = with-ad g v small h in choose over (met-fit b f.Ovf _ placed k) (did-fit b _ (puts _ n v small placed) k)
+checked-fit b over n v g small h k = let placed : Words (withAd v g) = with-ad g v small h in pick Good over (met-fit b f.Ovf _ placed k) (did-fit b _ (puts _ n v small placed) k)
 
 done-fit : (r : Refusals) (b : Book) (i : Instruction) (g : Regs) → Words g → ((x : ℕ) → b .bytes x < 256) → Good (done r b i g)
 done-fit r b (Instruction.shiftFixed op) g h k = did-fit b _ (puts g _ _ (result-small op _ _ (rtw h) (shift-small (g .ir))) h) k
@@ -250,9 +243,9 @@ done-fit r b (Instruction.loadHalf sign) g h k = loads-fit r b _ (λ at w. widen
 done-fit r b Instruction.storeByte g h k = stores-fit r b _ Byte g h k
 done-fit r b Instruction.storeHalf g h k = stores-fit r b _ Half g h k
 done-fit r b Instruction.storeWord g h k = stores-fit r b _ Word g h k
-done-fit r b (Instruction.moveFromSystem n) g h k = choose (user (g .sr)) (met-fit b f.Cpu g h k) (from-fit b g n h k)
-done-fit r b (Instruction.moveToSystem n) g h k = choose (user (g .sr)) (met-fit b f.Cpu g h k) (to-fit b g n h k)
-done-fit r b Instruction.returnFromException g h k = choose (user (g .sr)) (met-fit b f.Cpu g h k) (did-fit b _ (with-sr g _ (omega (arith, h .sr)) h) k)
+done-fit r b (Instruction.moveFromSystem n) g h k = pick Good (user (g .sr)) (met-fit b f.Cpu g h k) (from-fit b g n h k)
+done-fit r b (Instruction.moveToSystem n) g h k = pick Good (user (g .sr)) (met-fit b f.Cpu g h k) (to-fit b g n h k)
+done-fit r b Instruction.returnFromException g h k = pick Good (user (g .sr)) (met-fit b f.Cpu g h k) (did-fit b _ (with-sr g _ (omega (arith, h .sr)) h) k)
 done-fit r b Instruction.unassignedOpcode g h k = met-fit b f.Ri g h k
 done-fit r b Instruction.unassignedFunction g h k = met-fit b f.Ri g h k
 
@@ -292,7 +285,7 @@ fetched-fit : (r : Refusals) (m : Made) (c : Option Fault) → Good m → Good (
 ])
 fetched-fit r m (Some c) h = h
 fetched-fit r m None h =
-    choose (r .unreadable (wordOf (m .regs .pc)))
+    pick Good (r .unreadable (wordOf (m .regs .pc)))
     (record { words = h .words; bytes = h .bytes })
     (record { words = with-ir (m .regs) _ (word-small (m .bytes) (h .bytes) _) (h .words); bytes = h .bytes })
 

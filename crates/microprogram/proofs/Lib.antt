@@ -1,2 +1,2 @@
 mod Ends
-mod Integers
+pub mod Integers
