@@ -16,10 +16,10 @@ use Rattle.book.specs.Length.{lengthOf}
 use Rattle.book.specs.Path.{At, Walks, endsPath, stand}
 use Rattle.book.proofs.Walk.{Leads, Reaches, Rows, onlyLast, walked}
 use Rattle.microprogram.specs.Cycle.{ends, interrupting, resetting}
-use Rattle.microprogram.specs.Operation.{oneIf}
-use Rattle.microprogram.specs.Rows.{rowAt}
+use Rattle.rows.specs.Operation.{oneIf}
+use Rattle.rows.specs.Rows.{rowAt}
 use Rattle.microprogram.specs.declared.fault.Fault.{Fault}
-use Rattle.microprogram.specs.declared.row.Row.{Row}
+use Rattle.rows.specs.declared.row.Row.{Row}
 
 -- the row that a boundary chooses is that of the next event
 chosen : (reset irq : Bool) (flag : Option Fault) → At (cond reset Event.reset (elim flag [ Some c ↦ Event.exception c | None ↦ cond irq Event.interrupt Event.run ])) (16 + oneIf reset * 4 + oneIf irq * 2 + oneIf (isSome flag)) flag

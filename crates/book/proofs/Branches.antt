@@ -14,18 +14,18 @@ use Rattle.book.specs.Instruction.{Instruction}
 use Rattle.book.specs.Path.{Fit, stand}
 use Rattle.book.proofs.Jumps.{branch, lands, put-small}
 use Rattle.book.proofs.Walk.{Rows, amid, ending, fetching, plus-nothing, row, split, walk, init, fetch, below, Reaches}
-use Rattle.microprogram.specs.Operation.{oneIf, signed}
+use Rattle.rows.specs.Operation.{oneIf, signed}
 use Rattle.microprogram.specs.Registers.{Regs, put, reg, withAd}
-use Rattle.microprogram.specs.Rows.{rowAt, rows}
+use Rattle.rows.specs.Rows.{rowAt, rows}
 use Rattle.microprogram.specs.Word.{bit, distance, opcode, rs, rt}
-use Rattle.microprogram.specs.declared.operation.Operation.the-variants.{Sum, Dif}
-use Rattle.microprogram.specs.declared.row.Destination.the-variants as r
-use Rattle.microprogram.specs.declared.row.Detection.the-variants as e
-use Rattle.microprogram.specs.declared.row.OperandX.the-variants as x
-use Rattle.microprogram.specs.declared.row.OperandY.the-variants as y
-use Rattle.microprogram.specs.declared.row.Row.{Row}
-use Rattle.microprogram.specs.declared.row.Sequencing.the-variants as s
-use Rattle.microprogram.specs.declared.row.Transfer.the-variants as m
+use Rattle.rows.specs.declared.operation.Operation.the-variants.{Sum, Dif}
+use Rattle.rows.specs.declared.row.Destination.the-variants as r
+use Rattle.rows.specs.declared.row.Detection.the-variants as e
+use Rattle.rows.specs.declared.row.OperandX.the-variants as x
+use Rattle.rows.specs.declared.row.OperandY.the-variants as y
+use Rattle.rows.specs.declared.row.Row.{Row}
+use Rattle.rows.specs.declared.row.Sequencing.the-variants as s
+use Rattle.rows.specs.declared.row.Transfer.the-variants as m
 
 -- the difference of two words, the second read through AD, is zero where they are equal
 same-zero : (v w : ℕ) → v < 2 ^ 32 → w < 2 ^ 32 → eqb ((v + (2 ^ 32 - (w + 0) % 2 ^ 32)) % 2 ^ 32) 0 ≡ eqb v w

@@ -19,11 +19,11 @@ use Rattle.book.proofs.System.{breaks, calls-system, moves-from-bar, moves-fro
 use Rattle.book.proofs.Straight.{adds-immediate, computes, computes-checked, computes-pair, computes-plain, computes-signed, loads-upper, moves-from-hi, moves-from-lo, moves-to-hi, moves-to-lo, shifts-by, shifts-fixed}
 use Rattle.book.proofs.Upto.{among}
 use Rattle.book.proofs.Walk.{Reaches, below}
-use Rattle.microprogram.specs.Operation.{signed}
+use Rattle.rows.specs.Operation.{signed}
 use Rattle.microprogram.specs.Registers.{Regs, reg}
-use Rattle.microprogram.specs.Rows.{rows}
+use Rattle.rows.specs.Rows.{rows}
 use Rattle.microprogram.specs.Word.{bit, function, opcode, rs, rt, system}
-use Rattle.microprogram.specs.declared.operation.Operation.the-variants.{
+use Rattle.rows.specs.declared.operation.Operation.the-variants.{
   Sum,
   Dif,
   And,

@@ -13,19 +13,19 @@ use Rattle.book.proofs.Walk.{Rows, ending, fetching, nothing-plus, plus-nothin
 use Rattle.microprogram.specs.Fault.{code}
 use Rattle.microprogram.specs.Ledger.{noted}
 use Rattle.microprogram.specs.Registers.{Regs, withBar, withCr, withEpc, withPc, withSr}
-use Rattle.microprogram.specs.Rows.{rowAt, rows}
+use Rattle.rows.specs.Rows.{rowAt, rows}
 use Rattle.microprogram.specs.Word.{cause, caused, entered}
 use Rattle.microprogram.specs.declared.fault.Fault.{Fault}
 use Rattle.microprogram.specs.declared.fault.Fault.the-variants as f
 use Rattle.microprogram.specs.declared.ledger.Entry.{Entry}
-use Rattle.microprogram.specs.declared.operation.Operation.the-variants.{Sum, Dif}
-use Rattle.microprogram.specs.declared.row.Destination.the-variants as r
-use Rattle.microprogram.specs.declared.row.Detection.the-variants as e
-use Rattle.microprogram.specs.declared.row.OperandX.the-variants as x
-use Rattle.microprogram.specs.declared.row.OperandY.the-variants as y
-use Rattle.microprogram.specs.declared.row.Row.{Row}
-use Rattle.microprogram.specs.declared.row.Sequencing.the-variants as s
-use Rattle.microprogram.specs.declared.row.Transfer.the-variants as m
+use Rattle.rows.specs.declared.operation.Operation.the-variants.{Sum, Dif}
+use Rattle.rows.specs.declared.row.Destination.the-variants as r
+use Rattle.rows.specs.declared.row.Detection.the-variants as e
+use Rattle.rows.specs.declared.row.OperandX.the-variants as x
+use Rattle.rows.specs.declared.row.OperandY.the-variants as y
+use Rattle.rows.specs.declared.row.Row.{Row}
+use Rattle.rows.specs.declared.row.Sequencing.the-variants as s
+use Rattle.rows.specs.declared.row.Transfer.the-variants as m
 
 abbrev pub resets-row : Row
 resets-row = row x.Cz y.C0 Sum r.Pc m.Nop e.Clr s.Next 1

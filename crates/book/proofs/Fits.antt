@@ -22,16 +22,16 @@ use Rattle.book.specs.Path.{Begins, Fit, StepsFit, Words}
 use Rattle.book.proofs.Jumps.{joined-small, put-small}
 use Rattle.book.proofs.Straight.{extended-small}
 use Rattle.book.proofs.Walk.{below}
-use Rattle.microprogram.proofs.Integers.{residue-below}
+use Rattle.rows.proofs.Integers.{residue-below}
 use Rattle.microprogram.specs.Cycle.{misplaced}
 use Rattle.microprogram.specs.Fault.{code}
-use Rattle.microprogram.specs.Operation.{oneIf, residue, result}
+use Rattle.rows.specs.Operation.{oneIf, residue, result}
 use Rattle.microprogram.specs.Registers.{Regs, put, reg, withAd, withBar, withCr, withEpc, withHi, withIr, withLo, withPc, withSr}
 use Rattle.microprogram.specs.Word.{causes, immediate, rd, rs, rt, shift, user}
 use Rattle.microprogram.specs.declared.fault.Fault.{Fault}
 use Rattle.microprogram.specs.declared.fault.Fault.the-variants as f
-use Rattle.microprogram.specs.declared.operation.Operation.{Operation}
-use Rattle.microprogram.specs.declared.operation.Operation.the-variants.{
+use Rattle.rows.specs.declared.operation.Operation.{Operation}
+use Rattle.rows.specs.declared.operation.Operation.the-variants.{
   Sum,
   Dif,
   And,

@@ -16,17 +16,17 @@ use Rattle.book.specs.Path.{Fit, stand}
 use Rattle.book.proofs.Walk.{Rows, amid, ending, fetching, plus-nothing, row, walk, init, special, fetch, below, Reaches}
 use Rattle.microprogram.specs.Cycle.{misplaced, when}
 use Rattle.microprogram.specs.Registers.{Regs, put, reg, withAd, withPc}
-use Rattle.microprogram.specs.Rows.{rows}
+use Rattle.rows.specs.Rows.{rows}
 use Rattle.microprogram.specs.Word.{function, opcode, rd, rs, target}
 use Rattle.microprogram.specs.declared.fault.Fault.the-variants as f
-use Rattle.microprogram.specs.declared.operation.Operation.the-variants.{Sum, Or}
-use Rattle.microprogram.specs.declared.row.Destination.the-variants as r
-use Rattle.microprogram.specs.declared.row.Detection.the-variants as e
-use Rattle.microprogram.specs.declared.row.OperandX.the-variants as x
-use Rattle.microprogram.specs.declared.row.OperandY.the-variants as y
-use Rattle.microprogram.specs.declared.row.Row.{Row}
-use Rattle.microprogram.specs.declared.row.Sequencing.the-variants as s
-use Rattle.microprogram.specs.declared.row.Transfer.the-variants as m
+use Rattle.rows.specs.declared.operation.Operation.the-variants.{Sum, Or}
+use Rattle.rows.specs.declared.row.Destination.the-variants as r
+use Rattle.rows.specs.declared.row.Detection.the-variants as e
+use Rattle.rows.specs.declared.row.OperandX.the-variants as x
+use Rattle.rows.specs.declared.row.OperandY.the-variants as y
+use Rattle.rows.specs.declared.row.Row.{Row}
+use Rattle.rows.specs.declared.row.Sequencing.the-variants as s
+use Rattle.rows.specs.declared.row.Transfer.the-variants as m
 
 abbrev pub branch : Row
 branch = row x.Ad y.C0 Sum r.Pc m.Nop e.Nop s.Next 15

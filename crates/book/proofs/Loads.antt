@@ -19,24 +19,24 @@ use Rattle.book.specs.Instant.{World}
 use Rattle.book.specs.Path.{Fit, stand}
 use Rattle.book.proofs.Walk.{Rows, amid, ending, nothing-plus, row, split, walk, init, onlyLast, Reaches}
 use Rattle.microprogram.specs.Cycle.{operandX, operandY, advanced, barred, misplaced, when, worked}
-use Rattle.microprogram.specs.Operation.{oneIf, result}
+use Rattle.rows.specs.Operation.{oneIf, result}
 use Rattle.microprogram.specs.Registers.{Regs, put, withAd, withIr}
-use Rattle.microprogram.specs.Rows.{rowAt, rows}
+use Rattle.rows.specs.Rows.{rowAt, rows}
 use Rattle.microprogram.specs.Word.{bit, opcode, rt}
 use Rattle.microprogram.specs.declared.fault.Fault.{Fault}
 use Rattle.microprogram.specs.declared.fault.Fault.the-variants as f
-use Rattle.microprogram.specs.declared.operation.Operation.{Operation}
-use Rattle.microprogram.specs.declared.operation.Operation.the-variants.{Sum, Sll, Srl, Sra}
-use Rattle.microprogram.specs.declared.row.Destination.the-variants as r
-use Rattle.microprogram.specs.declared.row.Detection.the-variants as e
-use Rattle.microprogram.specs.declared.row.Detection.{Detection}
-use Rattle.microprogram.specs.declared.row.OperandX.{OperandX}
-use Rattle.microprogram.specs.declared.row.OperandX.the-variants as x
-use Rattle.microprogram.specs.declared.row.OperandY.{OperandY}
-use Rattle.microprogram.specs.declared.row.OperandY.the-variants as y
-use Rattle.microprogram.specs.declared.row.Row.{Row}
-use Rattle.microprogram.specs.declared.row.Sequencing.the-variants as s
-use Rattle.microprogram.specs.declared.row.Transfer.the-variants as m
+use Rattle.rows.specs.declared.operation.Operation.{Operation}
+use Rattle.rows.specs.declared.operation.Operation.the-variants.{Sum, Sll, Srl, Sra}
+use Rattle.rows.specs.declared.row.Destination.the-variants as r
+use Rattle.rows.specs.declared.row.Detection.the-variants as e
+use Rattle.rows.specs.declared.row.Detection.{Detection}
+use Rattle.rows.specs.declared.row.OperandX.{OperandX}
+use Rattle.rows.specs.declared.row.OperandX.the-variants as x
+use Rattle.rows.specs.declared.row.OperandY.{OperandY}
+use Rattle.rows.specs.declared.row.OperandY.the-variants as y
+use Rattle.rows.specs.declared.row.Row.{Row}
+use Rattle.rows.specs.declared.row.Sequencing.the-variants as s
+use Rattle.rows.specs.declared.row.Transfer.the-variants as m
 
 abbrev checking : Width → Detection
 checking Word = e.Lw

@@ -12,7 +12,7 @@ use Rattle.book.proofs.Arrive.{walks}
 use Rattle.book.proofs.Decode.{decodes}
 use Rattle.book.proofs.Entries.{excepts, excepts-row, interrupts, resets, resets-row}
 use Rattle.book.proofs.Walk.{Reaches}
-use Rattle.microprogram.specs.Rows.{rowAt, rows}
+use Rattle.rows.specs.Rows.{rowAt, rows}
 use Rattle.microprogram.specs.declared.fault.Fault.{Fault}
 
 -- the rows at which a reset begins

@@ -17,20 +17,20 @@ use Rattle.book.specs.Path.{Fit, stand}
 use Rattle.book.proofs.Walk.{Rows, amid, ending, row, rt-word, walk, init, fetch, Reaches}
 use Rattle.microprogram.specs.Cycle.{State, advanced, barred, misplaced, when, worked}
 use Rattle.microprogram.specs.Registers.{Regs, reg, withAd, withIr}
-use Rattle.microprogram.specs.Rows.{rows}
+use Rattle.rows.specs.Rows.{rows}
 use Rattle.microprogram.specs.Word.{opcode, rt}
 use Rattle.microprogram.specs.declared.fault.Fault.{Fault}
 use Rattle.microprogram.specs.declared.fault.Fault.the-variants as f
-use Rattle.microprogram.specs.declared.operation.Operation.the-variants.{Sum}
-use Rattle.microprogram.specs.declared.row.Destination.the-variants as r
-use Rattle.microprogram.specs.declared.row.Detection.the-variants as e
-use Rattle.microprogram.specs.declared.row.Detection.{Detection}
-use Rattle.microprogram.specs.declared.row.OperandX.the-variants as x
-use Rattle.microprogram.specs.declared.row.OperandY.the-variants as y
-use Rattle.microprogram.specs.declared.row.Row.{Row}
-use Rattle.microprogram.specs.declared.row.Sequencing.the-variants as s
-use Rattle.microprogram.specs.declared.row.Transfer.{Transfer}
-use Rattle.microprogram.specs.declared.row.Transfer.the-variants as m
+use Rattle.rows.specs.declared.operation.Operation.the-variants.{Sum}
+use Rattle.rows.specs.declared.row.Destination.the-variants as r
+use Rattle.rows.specs.declared.row.Detection.the-variants as e
+use Rattle.rows.specs.declared.row.Detection.{Detection}
+use Rattle.rows.specs.declared.row.OperandX.the-variants as x
+use Rattle.rows.specs.declared.row.OperandY.the-variants as y
+use Rattle.rows.specs.declared.row.Row.{Row}
+use Rattle.rows.specs.declared.row.Sequencing.the-variants as s
+use Rattle.rows.specs.declared.row.Transfer.{Transfer}
+use Rattle.rows.specs.declared.row.Transfer.the-variants as m
 
 abbrev storing : Width → Transfer
 storing Word = m.Ww

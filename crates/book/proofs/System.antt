@@ -14,17 +14,17 @@ use Rattle.book.specs.Path.{Fit, stand}
 use Rattle.book.proofs.Walk.{Rows, amid, ending, fetching, plus-nothing, row, rt-word, split, walk, init, special, fetch, Reaches}
 use Rattle.microprogram.specs.Cycle.{allowed, flagged, when}
 use Rattle.microprogram.specs.Registers.{Regs, put, reg, withBar, withCr, withEpc, withIr, withSr}
-use Rattle.microprogram.specs.Rows.{rowAt, rows}
+use Rattle.rows.specs.Rows.{rowAt, rows}
 use Rattle.microprogram.specs.Word.{bit, causes, system, function, opcode, restored, rt, user}
 use Rattle.microprogram.specs.declared.fault.Fault.the-variants as f
-use Rattle.microprogram.specs.declared.operation.Operation.the-variants.{Sum}
-use Rattle.microprogram.specs.declared.row.Destination.the-variants as r
-use Rattle.microprogram.specs.declared.row.Detection.the-variants as e
-use Rattle.microprogram.specs.declared.row.OperandX.the-variants as x
-use Rattle.microprogram.specs.declared.row.OperandY.the-variants as y
-use Rattle.microprogram.specs.declared.row.Row.{Row}
-use Rattle.microprogram.specs.declared.row.Sequencing.the-variants as s
-use Rattle.microprogram.specs.declared.row.Transfer.the-variants as m
+use Rattle.rows.specs.declared.operation.Operation.the-variants.{Sum}
+use Rattle.rows.specs.declared.row.Destination.the-variants as r
+use Rattle.rows.specs.declared.row.Detection.the-variants as e
+use Rattle.rows.specs.declared.row.OperandX.the-variants as x
+use Rattle.rows.specs.declared.row.OperandY.the-variants as y
+use Rattle.rows.specs.declared.row.Row.{Row}
+use Rattle.rows.specs.declared.row.Sequencing.the-variants as s
+use Rattle.rows.specs.declared.row.Transfer.the-variants as m
 
 -- the row at an address that the listing leaves out
 abbrev pub illegal : Row

@@ -13,26 +13,26 @@ use Rattle.book.specs.Book.{Book, Made, Refusals, did, fetches}
 use Rattle.book.specs.Instant.{World, tick, ticked, ticks}
 use Rattle.book.specs.Path.{Fit, stand}
 use Rattle.microprogram.specs.Cycle.{ends, interrupting, resetting}
-use Rattle.microprogram.specs.Operation.{oneIf}
+use Rattle.rows.specs.Operation.{oneIf}
 use Rattle.microprogram.specs.Registers.{Regs, reg}
-use Rattle.microprogram.specs.Rows.{rowAt, rows}
+use Rattle.rows.specs.Rows.{rowAt, rows}
 use Rattle.microprogram.specs.Word.{rs, rt}
 use Rattle.microprogram.specs.declared.fault.Fault.{Fault}
-use Rattle.microprogram.specs.declared.operation.Operation.{Operation}
-use Rattle.microprogram.specs.declared.operation.Operation.the-variants.{Sum}
-use Rattle.microprogram.specs.declared.row.Destination.{Destination}
-use Rattle.microprogram.specs.declared.row.Destination.the-variants as r
-use Rattle.microprogram.specs.declared.row.Detection.{Detection}
-use Rattle.microprogram.specs.declared.row.Detection.the-variants as e
-use Rattle.microprogram.specs.declared.row.OperandX.{OperandX}
-use Rattle.microprogram.specs.declared.row.OperandX.the-variants as x
-use Rattle.microprogram.specs.declared.row.OperandY.{OperandY}
-use Rattle.microprogram.specs.declared.row.OperandY.the-variants as y
-use Rattle.microprogram.specs.declared.row.Row.{Row}
-use Rattle.microprogram.specs.declared.row.Sequencing.{Sequencing}
-use Rattle.microprogram.specs.declared.row.Sequencing.the-variants as s
-use Rattle.microprogram.specs.declared.row.Transfer.{Transfer}
-use Rattle.microprogram.specs.declared.row.Transfer.the-variants as m
+use Rattle.rows.specs.declared.operation.Operation.{Operation}
+use Rattle.rows.specs.declared.operation.Operation.the-variants.{Sum}
+use Rattle.rows.specs.declared.row.Destination.{Destination}
+use Rattle.rows.specs.declared.row.Destination.the-variants as r
+use Rattle.rows.specs.declared.row.Detection.{Detection}
+use Rattle.rows.specs.declared.row.Detection.the-variants as e
+use Rattle.rows.specs.declared.row.OperandX.{OperandX}
+use Rattle.rows.specs.declared.row.OperandX.the-variants as x
+use Rattle.rows.specs.declared.row.OperandY.{OperandY}
+use Rattle.rows.specs.declared.row.OperandY.the-variants as y
+use Rattle.rows.specs.declared.row.Row.{Row}
+use Rattle.rows.specs.declared.row.Sequencing.{Sequencing}
+use Rattle.rows.specs.declared.row.Sequencing.the-variants as s
+use Rattle.rows.specs.declared.row.Transfer.{Transfer}
+use Rattle.rows.specs.declared.row.Transfer.the-variants as m
 
 -- rows with their addresses
 abbrev pub Rows : Type 0

@@ -17,13 +17,13 @@ use Rattle.book.specs.Instruction.{Instruction, decoded, under}
 use Rattle.microprogram.specs.Cycle.{barred, interrupting, misplaced, resetting}
 use Rattle.microprogram.specs.Fault.{code}
 use Rattle.microprogram.specs.Ledger.{blank, noted}
-use Rattle.microprogram.specs.Operation.{overflow, result, signed}
+use Rattle.rows.specs.Operation.{overflow, result, signed}
 use Rattle.microprogram.specs.Registers.{Regs, put, reg, withAd, withBar, withCr, withEpc, withHi, withIr, withLo, withPc, withSr}
 use Rattle.microprogram.specs.Word.{caused, causes, distance, entered, extended, immediate, rd, restored, rs, rt, shift, target, user}
 use Rattle.microprogram.specs.declared.fault.Fault.{Fault}
 use Rattle.microprogram.specs.declared.fault.Fault.the-variants as f
 use Rattle.microprogram.specs.declared.ledger.Entry.{Entry}
-use Rattle.microprogram.specs.declared.operation.Operation.the-variants.{Sum}
+use Rattle.rows.specs.declared.operation.Operation.the-variants.{Sum}
 
 -- what the next step will be
 pub data Event : Type 0 where

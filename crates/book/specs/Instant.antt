@@ -11,8 +11,8 @@ use Rattle.std.specs.declared.option.Option.{Option}
 use Rattle.std.specs.declared.option.Option.the-variants.{Some, None}
 use Rattle.book.specs.Book.{Refusals}
 use Rattle.microprogram.specs.Cycle.{State, access, advanced, requested, worked}
-use Rattle.microprogram.specs.Rows.{rowAt}
-use Rattle.microprogram.specs.declared.row.Row.{Row}
+use Rattle.rows.specs.Rows.{rowAt}
+use Rattle.rows.specs.declared.row.Row.{Row}
 
 -- the processor and the bytes of its memory
 pub record World : Type 0 where

@@ -4,8 +4,8 @@ use mathlib.Core.List.{List, [], _∷_}
 use Prim.Native.Nat.{ℕ}
 use lib.Dec.{eqb}
 use Rattle.microprogram.specs.Word.{bit, function, opcode, system}
-use Rattle.microprogram.specs.declared.operation.Operation.{Operation}
-use Rattle.microprogram.specs.declared.operation.Operation.the-variants.{
+use Rattle.rows.specs.declared.operation.Operation.{Operation}
+use Rattle.rows.specs.declared.operation.Operation.the-variants.{
   Sum,
   Dif,
   And,

@@ -8,7 +8,7 @@ use lib.IntN.{pos}
 use lib.Signed.{leZ, ltZ}
 use Rattle.book.specs.Book.{Book, Event, linked, risen}
 use Rattle.book.specs.Instruction.{Instruction, decoded, under}
-use Rattle.microprogram.specs.Operation.{signed}
+use Rattle.rows.specs.Operation.{signed}
 use Rattle.microprogram.specs.Registers.{Regs, reg}
 use Rattle.microprogram.specs.Word.{rs, rt}
 

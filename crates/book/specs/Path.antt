@@ -10,7 +10,7 @@ use Rattle.book.specs.Instant.{World, ticks}
 use Rattle.book.specs.Length.{lengthOf}
 use Rattle.microprogram.specs.Cycle.{ends, powered}
 use Rattle.microprogram.specs.Registers.{Regs, reg}
-use Rattle.microprogram.specs.Rows.{rowAt}
+use Rattle.rows.specs.Rows.{rowAt}
 use Rattle.microprogram.specs.declared.fault.Fault.{Fault}
 
 -- where the microprogram stands at an event: the row, and the flag that is up

@@ -7,7 +7,7 @@ use native.Mathlib.Omega.{arith}
 use lib.Dec.{T}
 use Rattle.std.proofs.shelf.Tests.{cases-eq}
 use Rattle.microprogram.specs.Bounds.{RowsEnd, ending, sound, soundBelow}
-use Rattle.microprogram.specs.Rows.{rows}
+use Rattle.rows.specs.Rows.{rows}
 
 left : (a b : Bool) → T (a && b) → T a
 left true b h = tt

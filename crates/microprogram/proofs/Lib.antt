@@ -1,2 +1,1 @@
 mod Ends
-pub mod Integers

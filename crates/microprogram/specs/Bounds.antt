@@ -4,11 +4,11 @@ use mathlib.Core.List.{List, [], _∷_}
 use Prim.Native.Nat.{ℕ, zero, suc, _+_, _-_, _*_, _/_, _<_}
 use lib.Dec.{T, leb, ltb}
 use Rattle.microprogram.specs.Cycle.{ends}
-use Rattle.microprogram.specs.Rows.{rowAt}
-use Rattle.microprogram.specs.declared.row.Sequencing.{Sequencing}
-use Rattle.microprogram.specs.declared.row.Sequencing.the-variants as s
-use Rattle.microprogram.specs.declared.row.Transfer.{Transfer}
-use Rattle.microprogram.specs.declared.row.Transfer.the-variants as m
+use Rattle.rows.specs.Rows.{rowAt}
+use Rattle.rows.specs.declared.row.Sequencing.{Sequencing}
+use Rattle.rows.specs.declared.row.Sequencing.the-variants as s
+use Rattle.rows.specs.declared.row.Transfer.{Transfer}
+use Rattle.rows.specs.declared.row.Transfer.the-variants as m
 
 -- the numbers from, from + by, .. , so many of them
 abbrev pub spread : ℕ → ℕ → ℕ → List ℕ

@@ -14,7 +14,7 @@ use Rattle.std.specs.Options.{isSome}
 use Rattle.std.specs.declared.option.Option.{Option}
 use Rattle.std.specs.declared.option.Option.the-variants.{Some, None}
 use Rattle.microprogram.specs.Fault.{codeOf}
-use Rattle.microprogram.specs.Operation.{oneIf, operated}
+use Rattle.rows.specs.Operation.{oneIf, operated}
 use Rattle.microprogram.specs.Ledger.{blank, noted}
 use Rattle.microprogram.specs.Registers.{Regs, held, put, reg, withAd, withBar, withCr, withEpc, withHi, withIr, withLo, withPc, withSr}
 use Rattle.microprogram.specs.Word.{bit, caused, causes, cause, distance, entered, extended, function, opcode, rd, restored, rs, rt, shift, system, target, user}
@@ -22,19 +22,19 @@ use Rattle.microprogram.specs.declared.chip.Chip.{Chip}
 use Rattle.microprogram.specs.declared.fault.Fault.{Fault}
 use Rattle.microprogram.specs.declared.fault.Fault.the-variants as f
 use Rattle.microprogram.specs.declared.ledger.Entry.{Entry}
-use Rattle.microprogram.specs.declared.row.Destination.{Destination}
-use Rattle.microprogram.specs.declared.row.Destination.the-variants as r
-use Rattle.microprogram.specs.declared.row.Detection.{Detection}
-use Rattle.microprogram.specs.declared.row.Detection.the-variants as e
-use Rattle.microprogram.specs.declared.row.OperandX.{OperandX}
-use Rattle.microprogram.specs.declared.row.OperandX.the-variants as x
-use Rattle.microprogram.specs.declared.row.OperandY.{OperandY}
-use Rattle.microprogram.specs.declared.row.OperandY.the-variants as y
-use Rattle.microprogram.specs.declared.row.Row.{Row}
-use Rattle.microprogram.specs.declared.row.Sequencing.{Sequencing}
-use Rattle.microprogram.specs.declared.row.Sequencing.the-variants as s
-use Rattle.microprogram.specs.declared.row.Transfer.{Transfer}
-use Rattle.microprogram.specs.declared.row.Transfer.the-variants as m
+use Rattle.rows.specs.declared.row.Destination.{Destination}
+use Rattle.rows.specs.declared.row.Destination.the-variants as r
+use Rattle.rows.specs.declared.row.Detection.{Detection}
+use Rattle.rows.specs.declared.row.Detection.the-variants as e
+use Rattle.rows.specs.declared.row.OperandX.{OperandX}
+use Rattle.rows.specs.declared.row.OperandX.the-variants as x
+use Rattle.rows.specs.declared.row.OperandY.{OperandY}
+use Rattle.rows.specs.declared.row.OperandY.the-variants as y
+use Rattle.rows.specs.declared.row.Row.{Row}
+use Rattle.rows.specs.declared.row.Sequencing.{Sequencing}
+use Rattle.rows.specs.declared.row.Sequencing.the-variants as s
+use Rattle.rows.specs.declared.row.Transfer.{Transfer}
+use Rattle.rows.specs.declared.row.Transfer.the-variants as m
 
 -- operand X; the lines are those of the last boundary
 abbrev pub operandX : ℕ → ℕ → Regs → OperandX → ℕ

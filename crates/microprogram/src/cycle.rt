@@ -13,17 +13,17 @@ use super::faults;
 use super::ledger::Ledger;
 use super::operands::rd;
 use super::operands::rt;
-use super::operation::operate;
 use super::registers::Registers;
-use super::row::Destination;
-use super::row::OperandX;
-use super::row::Row;
-use super::row::Transfer;
 use super::sequencing;
 use bus::request::Action;
 use bus::request::Answer;
 use bus::request::Request;
 use bus::request::Width;
+use rows::operation::operate;
+use rows::row::Destination;
+use rows::row::OperandX;
+use rows::row::Row;
+use rows::row::Transfer;
 
 fn code_of(flag: Option<Fault>) -> u32
     ensures { λ r. ⌜ r ≡ codeOf flag ⌝ }

@@ -4,9 +4,9 @@ ghost use mathlib.Core.Path.{_≡_};
 ghost use Rattle.std.specs.Options.{isSome};
 ghost use Rattle.microprogram.specs.Cycle.{allowed, barred, clears, flagged, found, misplaced, opens, opensAd, raised, refused, stopping, when};
 use super::fault::Fault;
-use super::row::Destination;
-use super::row::Detection;
 use bus::request::Answer;
+use rows::row::Destination;
+use rows::row::Detection;
 
 fn when(test: bool, fault: Fault) -> Option<Fault>
     ensures { λ r. ⌜ r ≡ when test fault ⌝ }

@@ -1,4 +1,4 @@
-//! The microprogram: its rows, the operation box, and one cycle as functions of values.
+//! The microprogram at work: one cycle as functions of values, and how the rows lead to the end of a path.
 
 pub mod bounds;
 pub mod chip;
@@ -7,8 +7,5 @@ pub mod fault;
 mod faults;
 pub mod ledger;
 pub mod operands;
-pub mod operation;
 pub mod registers;
-pub mod row;
-pub mod rows;
 mod sequencing;

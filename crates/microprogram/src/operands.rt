@@ -6,8 +6,8 @@ ghost use Rattle.microprogram.specs.Registers.{held};
 ghost use Rattle.microprogram.specs.Word.{causes, distance, extended, rd, rs, rt};
 ghost use Prim.Native.Nat.{_<_};
 use super::registers::Registers;
-use super::row::OperandX;
-use super::row::OperandY;
+use rows::row::OperandX;
+use rows::row::OperandY;
 
 /// The general register that IR bits 25–21 name.
 pub(crate) fn rs(ir: u32) -> usize

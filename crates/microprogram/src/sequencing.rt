@@ -3,11 +3,11 @@
 ghost use mathlib.Core.Path.{_≡_};
 ghost use Prim.Native.Nat.{_+_, _*_, _%_};
 ghost use Rattle.microprogram.specs.Cycle.{ends, following, interrupting, resetting};
-ghost use Rattle.microprogram.specs.Operation.{oneIf};
+ghost use Rattle.rows.specs.Operation.{oneIf};
 ghost use Rattle.microprogram.specs.Registers.{held};
 ghost use Rattle.microprogram.specs.Word.{bit};
 use super::registers::Registers;
-use super::row::Sequencing;
+use rows::row::Sequencing;
 
 /// SR bit 0 and some SR bit 10 + n are set with line n up.
 pub(crate) fn interrupting(sr: u32, lines: u8) -> bool

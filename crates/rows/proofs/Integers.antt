@@ -10,7 +10,7 @@ use mir.Val.{SFits, ofZ}
 use Rattle.std.proofs.shelf.Bits.{div-add-mod', mul-le}
 use Rattle.std.proofs.shelf.Signed.{ints, ofZ-toZ, wrapping-mul-bits}
 use Rattle.std.specs.shelf.Signed.{wrapped}
-use Rattle.microprogram.specs.Operation.{residue, signed, word}
+use Rattle.rows.specs.Operation.{residue, signed, word}
 
 pub residue-below : (z : ℤ) → residue z (2 ^ 32) < 2 ^ 32
 residue-below (pos n) = omega arith

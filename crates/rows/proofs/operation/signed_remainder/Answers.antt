@@ -5,9 +5,9 @@ use mir.Syntax.{w32}
 use mir.Val.{SFits, ofZ}
 use Rattle.std.proofs.shelf.Signed.{toZ-ofZ}
 use Rattle.std.proofs.shelf.Tests.{ne-eqb}
-use Rattle.microprogram.specs.Operation.{signed, word}
-use Rattle.microprogram.proofs.Integers.{remainder, residue-32}
-use Rattle.microprogram.proofs.operation.signed_remainder.Needs as need
+use Rattle.rows.specs.Operation.{signed, word}
+use Rattle.rows.proofs.Integers.{remainder, residue-32}
+use Rattle.rows.proofs.operation.signed_remainder.Needs as need
 
 pub returns : need.returns
 returns c =

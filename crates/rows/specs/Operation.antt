@@ -8,8 +8,8 @@ use lib.Signed.{ltZ, mag, quotZ, shrZ}
 use mir.Syntax.{w32}
 use mir.Val.{toZ}
 use Rattle.std.specs.Numbers.{remEuclid}
-use Rattle.microprogram.specs.declared.operation.Operation.{Operation}
-use Rattle.microprogram.specs.declared.operation.Operation.the-variants.{
+use Rattle.rows.specs.declared.operation.Operation.{Operation}
+use Rattle.rows.specs.declared.operation.Operation.the-variants.{
   Sum,
   Dif,
   And,

@@ -2,7 +2,7 @@
 
 ghost use mathlib.Core.Path.{_≡_};
 ghost use lib.ListN.{getD};
-ghost use Rattle.microprogram.specs.Rows.{empty, rowAt, rows};
+ghost use Rattle.rows.specs.Rows.{empty, rowAt, rows};
 use super::operation::Operation as A;
 use super::row::Destination as R;
 use super::row::Detection as E;

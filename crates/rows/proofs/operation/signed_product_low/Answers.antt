@@ -3,8 +3,8 @@ use Prim.Native.Nat.{_<_, _^_, _*_, _%_}
 use native.Mathlib.Omega.{arith}
 use mir.Syntax.{w32}
 use Rattle.std.proofs.shelf.Signed.{ofZ-toZ}
-use Rattle.microprogram.proofs.Integers.{product-low}
-use Rattle.microprogram.proofs.operation.signed_product_low.Needs as need
+use Rattle.rows.proofs.Integers.{product-low}
+use Rattle.rows.proofs.operation.signed_product_low.Needs as need
 
 pub returns : need.returns
 returns c =

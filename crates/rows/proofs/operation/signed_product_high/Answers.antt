@@ -4,9 +4,9 @@ use lib.IntN.{_*ℤ_}
 use mir.Syntax.{w32, w64}
 use mir.Val.{SFits, ofZ}
 use Rattle.std.proofs.shelf.Signed.{toZ-ofZ}
-use Rattle.microprogram.specs.Operation.{residue}
-use Rattle.microprogram.proofs.Integers.{product-fits, residue-64}
-use Rattle.microprogram.proofs.operation.signed_product_high.Needs as need
+use Rattle.rows.specs.Operation.{residue}
+use Rattle.rows.proofs.Integers.{product-fits, residue-64}
+use Rattle.rows.proofs.operation.signed_product_high.Needs as need
 
 pub returns : need.returns
 returns c =

@@ -2,8 +2,8 @@
 
 ghost use mathlib.Core.Bool.{Bool};
 ghost use mathlib.Core.Path.{_≡_};
-ghost use Rattle.microprogram.specs.Operation.{operated, overflow, result};
-ghost use Rattle.microprogram.specs.declared.operation.Operation.the-variants.{Sra, Msl, Msh, Dsq, Dsr};
+ghost use Rattle.rows.specs.Operation.{operated, overflow, result};
+ghost use Rattle.rows.specs.declared.operation.Operation.the-variants.{Sra, Msl, Msh, Dsq, Dsr};
 
 /// The field ALU of a row.
 #[derive(Clone, Copy)]

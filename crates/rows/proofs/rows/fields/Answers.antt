@@ -2,8 +2,8 @@
 use mathlib.Core.Path.{sym}
 use borrow.Author.Needs.{needs}
 use Rattle.std.proofs.shelf.Lists.{getD-default, getD-past}
-use Rattle.microprogram.specs.Rows.{empty, rows}
-use Rattle.microprogram.proofs.rows.fields.Needs as need
+use Rattle.rows.specs.Rows.{empty, rows}
+use Rattle.rows.proofs.rows.fields.Needs as need
 
 pub returns-then-address-ge1024 : need.returns-then-address-ge1024
 unfolding rows

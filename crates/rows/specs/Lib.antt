@@ -1,0 +1,2 @@
+pub mod Operation
+pub mod Rows
