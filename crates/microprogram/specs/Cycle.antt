@@ -69,7 +69,7 @@ operandY dt g y.C16 = 16
 operandY dt g y.C24 = 24
 operandY dt g y.Cx = 0x80000080
 
--- the request that a row makes: none where a flag was up before
+-- the access that a row has in its field
 abbrev pub access : Regs → Transfer → ℕ → Option Request
 access g m.Nop res = None
 access g m.If res = Some (record { address = g .pc; action = action.Read })
@@ -78,6 +78,7 @@ access g m.Wh res = Some (record { address = g .ad; action = action.Write Half r
 access g m.Wb res = Some (record { address = g .ad; action = action.Write Byte res })
 access g m.Lw res = Some (record { address = g .ad; action = action.Read })
 
+-- the request that is made of it: none where a flag was up before
 abbrev pub requested : Option Fault → Option Request → Option Request
 requested (Some c) q = None
 requested None q = q

@@ -7,7 +7,7 @@ use Rattle.microprogram.specs.declared.ledger.Entry.{Entry}
 abbrev pub blank : Entry
 blank = record { count = 0; epc = 0 }
 
--- one entry more of a code; counts are numbers of 64 bits, which no core fills
+-- one entry more of a code; counts are numbers of 64 bits, and wrap
 abbrev pub entry : List Entry → ℕ → ℕ → Entry
 entry ledger code epc = record { count = (getD ledger code blank .count + 1) % 2 ^ 64; epc = epc }
 
