@@ -1,6 +1,6 @@
 -- From a path of rows to the step of the book that it walks. Assumes nothing.
 use Rattle.std.proofs.Common.{◌≡◌, ℕ, zero, suc, ◌+◌, ◌*◌, ◌<◌, Bool, true, false, cond, [], ◌∷◌, length, is_some, Some, None, Option, sym, refl, ap, ◌∙◌, inl, inr, arith}
-use Rattle.std.proofs.lemmas.Bool.{and_parts, not_true}
+use Rattle.std.proofs.lemmas.Bool.{and_parts, not-true}
 use Rattle.book.specs.Book.{Book, Event, Refusals, fetches, made}
 use Rattle.book.specs.Instant.{World, tick, ticked, ticks}
 use Rattle.book.specs.Length.{length_of}
@@ -35,7 +35,7 @@ module _ (deny : Refusals) (lines : ℕ) where
   unfolding ticks
   goes_on [] s h p n l = absurd (omega arith)
   goes_on (q ∷ []) s h p n l = absurd (omega arith)
-  goes_on (q ∷ (t ∷ ps)) s h p zero l = here q.0 q.1 (t ∷ ps) s h ∙ not_true _ (and_parts _ _ p).0
+  goes_on (q ∷ (t ∷ ps)) s h p zero l = here q.0 q.1 (t ∷ ps) s h ∙ not-true _ (and_parts _ _ p).0
   goes_on (q ∷ (t ∷ ps)) s h p (suc n) l =
       ap (λ u. ends_path (ticks deny lines n u)) (next_world q.0 q.1 (t ∷ ps) s h)
       ∙ goes_on (t ∷ ps) (ticked q.1 deny lines s) h.2 (and_parts _ _ p).1 n (omega arith)

@@ -1,4 +1,6 @@
 //! Jobs: what their lines do, and what they are answered.
 
+#![tactic(auto)]
+
 pub mod job;
 pub mod station;

@@ -1,5 +1,7 @@
 //! Three layers: split, window and delay, over any memories.
 
+#![tactic(auto)]
+
 pub mod delay;
 pub mod split;
 #[cfg(test)]

@@ -1,5 +1,7 @@
 //! Lines and replies of a job: reading the one, writing the other.
 
+#![tactic(auto)]
+
 pub mod digit;
 pub mod fault;
 pub mod order;

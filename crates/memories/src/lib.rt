@@ -1,5 +1,7 @@
 //! Three memories: RAM, ROM and scratch, and where they may stand.
 
+#![tactic(auto)]
+
 pub mod placement;
 pub mod ram;
 mod region;

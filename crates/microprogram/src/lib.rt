@@ -1,5 +1,7 @@
 //! The microprogram at work: one cycle as functions of values, and how the rows lead to the end of a path.
 
+#![tactic(auto)]
+
 pub mod bounds;
 pub mod chip;
 pub mod cycle;

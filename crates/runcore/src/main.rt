@@ -1,5 +1,7 @@
 //! Runs a small piece of firmware on a core and prints every call, with what it answered and what it changed.
 
+#![tactic(auto)]
+
 mod firmware;
 mod pile;
 mod script;

@@ -1,5 +1,7 @@
 //! Asks a fixed list of requests of the pile that jobs run on, and prints what came of each.
 
+#![tactic(auto)]
+
 mod pile;
 mod script;
 mod transcript;

@@ -8,7 +8,7 @@ returns-in-Some g c =
 
 pub loop-asked-preserved : goal.loop-asked-preserved
 loop-asked-preserved g c =
-    rw add-one (goes_on g.B.Bus.keeps c.args.request c.loop-asked.asked c.args.bus.now c.loop-asked.bus c.request-answer.new.self c.request-answer.result c.loop-asked.invariant c.request-answer.ensures c.in-default.ensures)
+    rw add-one (goes_on g.B.Bus.keeps c.args.request c.loop-asked.asked c.args.bus.now c.loop-asked.bus c.request-answer.new.self c.request-answer.result c.loop-asked.invariant c.request-answer.ensures c.in_default.ensures)
 
 pub unreachable-requires : goal.unreachable-requires
 unreachable-requires g c =

@@ -18,7 +18,7 @@ returns-in-Word c =
           landed a.base a.address a.data c.in-Some.at start a.width a.bytes.now _ got
           (simp (is, c.lane.ensures) (omega (arith, i.1)))
           (simp (is, c.lane.ensures) (omega (arith, i.2)))
-          (simp (is, c.to-le-bytes.ensures) (filled_word start a.data a.bytes.now));
+          (simp (is, c.to_le_bytes.ensures) (filled_word start a.data a.bytes.now));
     }
 
 pub returns-in-Half : goal.returns-in-Half
@@ -35,7 +35,7 @@ returns-in-Half c =
           landed a.base a.address a.data c.in-Some.at start a.width a.bytes.now _ got
           (simp (is, c.lane.ensures) (omega (arith, i.1)))
           (simp (is, c.lane.ensures) (omega (arith, i.2)))
-          (simp (is, c.to-le-bytes.ensures) (filled_half start a.data a.bytes.now));
+          (simp (is, c.to_le_bytes.ensures) (filled_half start a.data a.bytes.now));
     }
 
 pub returns-in-Byte : goal.returns-in-Byte
@@ -52,5 +52,5 @@ returns-in-Byte c =
           landed a.base a.address a.data c.in-Some.at start a.width a.bytes.now _ got
           (simp (is, c.lane.ensures) (omega (arith, i.1)))
           (simp (is, c.lane.ensures) (omega (arith, i.2)))
-          (simp (is, c.to-le-bytes.ensures) (filled_byte start a.data a.bytes.now));
+          (simp (is, c.to_le_bytes.ensures) (filled_byte start a.data a.bytes.now));
     }

@@ -15,12 +15,12 @@ pub loop-call-preserved : goal.loop-call-preserved
 loop-call-preserved g c =
     let h : History = c.loop-call.invariant.2.0 in
     let next = plays_more g.B.Bus.keeps c.new-core.result.pile (built c.new-core.result.pile) (machine h c.loop-call.core) (machine (c.call.ensures h).0 c.call.new.self) (take c.loop-call.call-index c.args.calls.now) (vec_items c.loop-call.replies) _ c.call.result c.loop-call.invariant.2.1 c.loop-call.invariant.2.2 (c.call.ensures h).1 in (
-      omega (arith, c.push-reserved.ensures.len, c.loop-call.invariant.0),
-      omega (arith, c.push-reserved.ensures.capacity, c.loop-call.invariant.1),
+      omega (arith, c.push_reserved.ensures.len, c.loop-call.invariant.0),
+      omega (arith, c.push_reserved.ensures.capacity, c.loop-call.invariant.1),
       (
         (c.call.ensures h).0,
         subst₂ (λ xs rs. Played g.B.Bus.means g.B.Bus.steps (Promised g.B.Bus.means g.B.Bus.steps c.new-core.result.pile) (built c.new-core.result.pile) xs rs (machine (c.call.ensures h).0 c.call.new.self))
-            (sym (take_more c.args.calls.now c.loop-call.call-index _ c.loop-call-test.true)) (sym c.push-reserved.ensures.items) next.0,
+            (sym (take_more c.args.calls.now c.loop-call.call-index _ c.loop-call-test.true)) (sym c.push_reserved.ensures.items) next.0,
         next.1,
       ),
     )

@@ -8,7 +8,7 @@ returns c =
     let p : c.args.x < 2 ^ 32 = c.ranges.x.fits in
     let q : c.args.y < 2 ^ 32 = c.ranges.y.fits in
     let below : (c.args.x * c.args.y) % 2 ^ 32 < 2 ^ 32 = omega arith in
-    c.cast-unsigned.ensures
-    ∙ simp (c.cast-signed.ensures, c.cast-signed-2.ensures)
+    c.cast_unsigned.ensures
+    ∙ simp (c.cast_signed.ensures, c.cast_signed-2.ensures)
     (simp (of_z-to_z w32 c.args.x p, of_z-to_z w32 c.args.y q)
     (of_z-to_z w32 ((c.args.x * c.args.y) % 2 ^ 32) below ∙ product_low c.args.x c.args.y p q))

@@ -8,7 +8,7 @@ use Rattle.rows.proofs.operation.signed_remainder.Goals as goal
 
 pub returns : goal.returns
 returns c =
-    let fits : SFits w32 c.wrapping-rem.result = record { sfits = c.wrapping-rem.type-inv } in
-    let same : c.wrapping-rem.result ≡ rem_z (signed c.args.x) (signed c.args.y) = grind (arith, to_z-of_z) in
+    let fits : SFits w32 c.wrapping_rem.result = record { sfits = c.wrapping_rem.type_inv } in
+    let same : c.wrapping_rem.result ≡ rem_z (signed c.args.x) (signed c.args.y) = grind (arith, to_z-of_z) in
     rw (ne_eqb c.args.y 0 c.if-y-eq0.false)
-    (c.cast-unsigned.ensures ∙ ap (of_z w32) (to_z-of_z w32 c.wrapping-rem.result fits) ∙ residue_32 c.wrapping-rem.result fits ∙ ap word (same ∙ remainder (signed c.args.x) (signed c.args.y)))
+    (c.cast_unsigned.ensures ∙ ap (of_z w32) (to_z-of_z w32 c.wrapping_rem.result fits) ∙ residue_32 c.wrapping_rem.result fits ∙ ap word (same ∙ remainder (signed c.args.x) (signed c.args.y)))

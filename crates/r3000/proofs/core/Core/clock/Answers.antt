@@ -10,4 +10,4 @@ returns-in-Some g c h = (h, denied Clocked (too_many 1 c.args.self.now.counts.re
 
 pub returns : goal.returns
 returns g c h =
-    ((c.cycle-frozen.ensures h).0, undenied (too_many 1 c.args.self.now.counts.report) (machine h c.args.self.now) _ _ _ c.in-default.ensures (c.cycle-frozen.result, (c.cycle-frozen.ensures h).1, refl))
+    ((c.cycle-frozen.ensures h).0, undenied (too_many 1 c.args.self.now.counts.report) (machine h c.args.self.now) _ _ _ c.in_default.ensures (c.cycle-frozen.result, (c.cycle-frozen.ensures h).1, refl))

@@ -18,7 +18,7 @@ cycle-requires g c =
     let so_far : c.loop.counts.report.cycles ≡ c.args.self.now.counts.report.cycles + c.loop.counter =
     as_many g.B.Bus.steps Anything c.loop.counter (machine fresh c.args.self.now) _ (c.loop.invariant fresh).1
     in
-    omega (arith, run_granted c.args.count c.args.self.now.counts.report c.in-default.ensures)
+    omega (arith, run_granted c.args.count c.args.self.now.counts.report c.in_default.ensures)
 
 pub loop-preserved : goal.loop-preserved
 loop-preserved g c h =
@@ -29,4 +29,4 @@ pub returns : goal.returns
 returns g c h =
     let all : c.loop.counter ≡ c.args.count = omega arith in
     let so_far : (k : History) × Cycles g.B.Bus.steps Anything c.loop.counter (machine h c.args.self.now) (made k c.loop.chip c.loop.self.lines c.loop.counts c.loop.self.pile) = c.loop.invariant h in
-    (so_far.0, undenied (run_denial c.args.count c.args.self.now.counts.report) (machine h c.args.self.now) _ _ _ c.in-default.ensures (subst (λ n. Cycles g.B.Bus.steps Anything n (machine h c.args.self.now) (made so_far.0 c.loop.chip c.loop.self.lines c.loop.counts c.loop.self.pile)) all so_far.1, refl))
+    (so_far.0, undenied (run_denial c.args.count c.args.self.now.counts.report) (machine h c.args.self.now) _ _ _ c.in_default.ensures (subst (λ n. Cycles g.B.Bus.steps Anything n (machine h c.args.self.now) (made so_far.0 c.loop.chip c.loop.self.lines c.loop.counts c.loop.self.pile)) all so_far.1, refl))
