@@ -7,7 +7,7 @@ use Rattle.book.specs.Path.{Fit, stand}
 use Rattle.microprogram.specs.Cycle.{ends, interrupting, resetting}
 use Rattle.rows.specs.Operation.{one_if}
 use Rattle.microprogram.specs.Registers.{Regs, reg}
-use Rattle.rows.specs.Rows.{row_at, rows}
+use Rattle.rows.specs.Rows.{row_at}
 use Rattle.microprogram.specs.Word.{rs, rt}
 use Rattle.microprogram.specs.declared.fault.Fault.{Fault}
 use Rattle.rows.specs.declared.operation.Operation.{Operation}

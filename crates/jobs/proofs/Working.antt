@@ -1,5 +1,5 @@
 -- A job on its way: what was done is right, whatever is still to do. Assumes nothing.
-use Rattle.std.proofs.Common.{◌≡◌, ℕ, ◌+◌, ◌≤◌, List, [], ◌∷◌, ◌++◌, length, Ok, Err, Result, sym, refl, ap, ◌∙◌, subst, append_assoc, append-nil, arith}
+use Rattle.std.proofs.Common.{◌≡◌, ℕ, ◌+◌, ◌≤◌, List, [], ◌∷◌, ◌++◌, length, Ok, Err, Result, sym, refl, ap, ◌∙◌, subst, append_assoc, append-nil}
 use Rattle.bus.specs.Meaning.{Keeps, Meaning}
 use Rattle.bus.specs.declared.request.Answer.{Answer}
 use Rattle.bus.specs.declared.request.Request.{Request}
@@ -15,7 +15,7 @@ use Rattle.jobs.specs.declared.station.Station.{Station}
 use Rattle.r3000.proofs.Played.{promised, runs, same, sets}
 use Rattle.r3000.specs.Calls.{lines_set, run_denial}
 use Rattle.r3000.specs.Core.{Anything}
-use Rattle.r3000.specs.Machine.{History, Machine, built}
+use Rattle.r3000.specs.Machine.{History, Machine}
 use Rattle.r3000.specs.Played.{Promised}
 use Rattle.r3000.specs.Reached.{Reached}
 

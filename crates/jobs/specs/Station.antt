@@ -1,5 +1,5 @@
 -- What each line does, before the start and after it. Assumes nothing.
-use Rattle.std.specs.Prelude.{◌≡◌, ℕ, List, Ok, Err, Result}
+use Rattle.std.specs.Prelude.{◌≡◌, ℕ, Ok, Err, Result}
 use Rattle.bus.specs.Meaning.{Meaning}
 use Rattle.bus.specs.Settled.{Settles}
 use Rattle.bus.specs.declared.request.Action.TheVariants.{Write}
@@ -8,7 +8,6 @@ use Rattle.bus.specs.declared.request.Request.{Request}
 use Rattle.bus.specs.declared.request.Width.TheVariants.{Word}
 use Rattle.bus.specs.declared.settle.BusFault.{BusFault}
 use Rattle.bus.specs.declared.settle.Settled.{Settled}
-use Rattle.lines.specs.Fault.{address_of, number_of}
 use Rattle.lines.specs.declared.fault.JobFault.{JobFault}
 use Rattle.lines.specs.declared.fault.JobFault.TheVariants as fault
 use Rattle.lines.specs.declared.fault.LoadFault.{LoadFault}

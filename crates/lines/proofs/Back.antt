@@ -1,10 +1,10 @@
 -- Reading what was written. Assumes nothing.
-use Rattle.std.proofs.Common.{◌≡◌, ℕ, zero, suc, ◌+◌, ◌-◌, ◌*◌, ◌/◌, ◌%◌, ◌^◌, ◌<◌, ◌≤◌, Bool, true, false, cond, ◌&&◌, eqb, ltb, leb, List, [], ◌∷◌, ◌++◌, map, length, get_or, Some, None, Option, sym, refl, ap, ◌∙◌, subst, ap₂, mod-eq_of_lt, arith}
+use Rattle.std.proofs.Common.{◌≡◌, ℕ, zero, suc, ◌+◌, ◌-◌, ◌*◌, ◌/◌, ◌%◌, ◌^◌, ◌<◌, ◌≤◌, Bool, true, false, cond, eqb, ltb, List, [], ◌∷◌, ◌++◌, map, length, Some, None, sym, refl, ap, ◌∙◌, ap₂, mod-eq_of_lt, arith}
 use native.Mathlib.Nat.{pow-succ'}
 use lib.Arith.{mod-mul}
 use Rattle.std.proofs.lemmas.Bool.{and_from, and_right, cond-false, cond-true, le-leb, lt-leb, ltb-false, ltb-true, ne_eqb}
 use Rattle.lines.specs.Digit.{byte_of, digit_of}
-use Rattle.lines.specs.Line.{Fields, digit, fields_of, value_of}
+use Rattle.lines.specs.Line.{digit, fields_of, value_of}
 use Rattle.lines.specs.Reread.{RoundTrip, reread_fields}
 use Rattle.lines.specs.Written.{Field, digits, parted}
 use Rattle.lines.specs.declared.reply.Reply.TheVariants.{Loaded, Started, Set, Ran, Shown, Denied}

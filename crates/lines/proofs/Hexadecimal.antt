@@ -1,5 +1,5 @@
 -- Digits and powers of sixteen. Assumes nothing.
-use Rattle.std.proofs.Common.{◌≡◌, ℕ, zero, suc, ◌+◌, ◌-◌, ◌*◌, ◌/◌, ◌%◌, ◌^◌, ◌<◌, List, [], ◌∷◌, ◌++◌, sym, refl, ap, ◌∙◌, ap₂, append_assoc, suc-mul, pow-suc, arith, pow-add}
+use Rattle.std.proofs.Common.{◌≡◌, ℕ, zero, suc, ◌-◌, ◌*◌, ◌/◌, ◌%◌, ◌^◌, ◌<◌, List, [], ◌∷◌, ◌++◌, sym, refl, ap, ◌∙◌, ap₂, append_assoc, suc-mul, pow-suc, arith, pow-add}
 use native.Mathlib.Nat.{mod-mod}
 use Rattle.lines.specs.Digit.{byte_of}
 use Rattle.lines.specs.Written.{digits}

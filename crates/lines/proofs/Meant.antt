@@ -1,11 +1,9 @@
 -- What is kept of a line decides what it means. Assumes nothing.
-use Rattle.std.proofs.Common.{◌≡◌, ℕ, zero, suc, ◌+◌, ◌-◌, ◌*◌, ◌%◌, ◌^◌, ◌<◌, ◌≤◌, min, Bool, true, false, cond, ◌&&◌, eqb, ltb, leb, ◌⊎◌, List, [], ◌∷◌, map, length, get_or, is_some, Some, None, Ok, Err, Option, Result, sym, refl, ap, ◌∙◌, subst, ap₂, inl, inr, mul-le-mul_right, mod-eq_of_lt, arith}
+use Rattle.std.proofs.Common.{◌≡◌, ℕ, suc, ◌+◌, ◌-◌, ◌*◌, ◌%◌, ◌^◌, ◌<◌, ◌≤◌, min, Bool, true, false, cond, ◌&&◌, eqb, ltb, leb, ◌⊎◌, List, [], ◌∷◌, map, length, get_or, Some, None, Ok, Err, Option, sym, refl, ap, ◌∙◌, subst, ap₂, inl, inr, mul-le-mul_right, mod-eq_of_lt, arith}
 use native.Mathlib.Nat.{pow-succ'}
-use Rattle.std.proofs.lemmas.Bool.{cases_eq, eq-eqb, eqb-true, leb-true, ne_eqb, and_parts, cond_both}
-use Rattle.lines.specs.Digit.{digit_of}
+use Rattle.std.proofs.lemmas.Bool.{cases_eq, eq-eqb, leb-true, ne_eqb, and_parts}
 use Rattle.lines.specs.Line.{Fields, all, built, digit, fields_of, fits, in_form, is_digit, kind_at, kind_of, meant, ordered, read_line, value_of, widths}
 use Rattle.lines.specs.Scan.{chosen, kind_in, meaning, order_at, order_in, rightly, scanned}
-use Rattle.lines.specs.declared.fault.JobFault.{JobFault}
 use Rattle.lines.specs.declared.fault.JobFault.TheVariants as fault
 use Rattle.lines.specs.declared.order.Kind.{Kind}
 use Rattle.lines.specs.declared.order.Kind.TheVariants as kind

@@ -1,5 +1,5 @@
 -- Reading a reply back. Assumes nothing.
-use Rattle.std.specs.Prelude.{◌≡◌, ℕ, ◌^◌, ◌<◌, Bool, cond, List, [], ◌∷◌, map, length, Some, None, Option, ◌==◌, slice_index}
+use Rattle.std.specs.Prelude.{◌≡◌, ℕ, ◌^◌, ◌<◌, cond, List, [], ◌∷◌, map, length, Some, None, Option, ◌==◌, slice_index}
 use Rattle.lines.specs.Line.{Fields, fields_of, fits, value_of}
 use Rattle.lines.specs.Written.{Field, fields_in, parted}
 use Rattle.lines.specs.declared.reply.Reply.{Reply}

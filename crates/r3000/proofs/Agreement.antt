@@ -1,11 +1,11 @@
 -- A core is on the way of the book's step: so many ticks past the last boundary. Assumes nothing.
-use Rattle.std.proofs.Common.{◌≡◌, ℕ, zero, suc, ◌+◌, ◌<◌, Bool, true, false, cond, ◌⊎◌, List, [], ◌∷◌, length, Option, sym, refl, ap, ◌∙◌, subst, ap₂, inl, inr, add-one, arith}
+use Rattle.std.proofs.Common.{◌≡◌, ℕ, zero, suc, ◌+◌, ◌<◌, Bool, true, false, cond, ◌⊎◌, ◌∷◌, length, Option, sym, refl, ap, ◌∙◌, subst, ap₂, inl, inr, add-one, arith}
 use Rattle.std.proofs.lemmas.Bool.{both_ways, cases_eq, cond-false}
 use Rattle.bus.specs.Meaning.{Keeps, Meaning}
 use Rattle.bus.specs.declared.request.Answer.{Answer}
 use Rattle.bus.specs.declared.request.Request.{Request}
 use Rattle.book.specs.Book.{Book, Refusals, begun, step}
-use Rattle.book.specs.Instant.{World, asked, tick, ticked, ticks}
+use Rattle.book.specs.Instant.{World, asked, tick, ticks}
 use Rattle.book.specs.Length.{length_of}
 use Rattle.book.specs.Path.{Fit, Stands, Walks, ends_path, stand}
 use Rattle.book.proofs.Fits.{begins, steps_fit}
@@ -16,7 +16,6 @@ use Rattle.r3000.specs.Counts.{counted}
 use Rattle.r3000.specs.Cycle.{Cycle}
 use Rattle.r3000.specs.Machine.{History, Machine, built, fresh, hand, with_lines}
 use Rattle.r3000.specs.Promise.{Agrees, book_after, lengths, refusals}
-use Rattle.r3000.specs.declared.report.Report.{Report}
 use Rattle.r3000.proofs.Answered.{fixed, no_tick, one_tick, world}
 use Rattle.r3000.proofs.Successors.{no_lines}
 use Rattle.rows.specs.Rows.{row_at}

@@ -1,16 +1,16 @@
 -- What a cycle does to processor and bytes: an unfrozen one is a tick, a frozen one nothing. Assumes nothing.
-use Rattle.std.proofs.Common.{◌≡◌, ℕ, ◌+◌, Bool, true, false, cond, ◌||◌, Some, None, Option, sym, refl, ap, ◌∙◌, ap₂}
+use Rattle.std.proofs.Common.{◌≡◌, ℕ, ◌+◌, Bool, true, false, cond, Some, None, Option, sym, refl, ap, ◌∙◌, ap₂}
 use mathlib.Core.Path.{fun_ext}
-use Rattle.std.proofs.lemmas.Bool.{cases_Bool, both_ways, true≢false}
+use Rattle.std.proofs.lemmas.Bool.{true≢false}
 use Rattle.std.specs.Option.{option_map}
-use Rattle.bus.specs.Meaning.{Answers, Keeps, Meaning, after, answer, carried, refused, stalled, written}
+use Rattle.bus.specs.Meaning.{Answers, Keeps, Meaning, after, answer, carried, refused, stalled}
 use Rattle.bus.specs.Request.{access_of}
 use Rattle.bus.specs.declared.request.Answer.{Answer}
 use Rattle.bus.specs.declared.request.Answer.TheVariants.{Wait, BusError, Done}
 use Rattle.bus.specs.declared.request.Request.{Request}
-use Rattle.book.specs.Instant.{World, asked, changed, still, tick, ticked}
+use Rattle.book.specs.Instant.{World, asked, changed, still, tick}
 use Rattle.book.proofs.Still.{still_keeps}
-use Rattle.microprogram.specs.Cycle.{State, advanced, ends, worked}
+use Rattle.microprogram.specs.Cycle.{advanced, worked}
 use Rattle.rows.specs.declared.row.Row.{Row}
 use Rattle.r3000.specs.Cycle.{Asks, Cycle, freezes}
 use Rattle.r3000.specs.Machine.{Machine, hand}

@@ -1,5 +1,5 @@
 -- The next boundary is near: what is left of the path falls with every granted cycle. Assumes nothing.
-use Rattle.std.proofs.Common.{◌≡◌, ℕ, zero, suc, ◌+◌, ◌-◌, ◌*◌, ◌<◌, ◌≤◌, Bool, true, false, cond, not, ◌&&◌, T, ltb, leb, ◌∷◌, Some, None, Option, sym, refl, ap, ◌∙◌, subst, add-mul, sub-add_cancel, arith}
+use Rattle.std.proofs.Common.{◌≡◌, ℕ, zero, suc, ◌+◌, ◌-◌, ◌*◌, ◌<◌, ◌≤◌, Bool, true, false, cond, T, ltb, leb, ◌∷◌, Some, None, Option, sym, refl, ap, ◌∙◌, subst, add-mul, sub-add_cancel, arith}
 use Rattle.std.proofs.lemmas.Bool.{leb-true, ltb-true}
 use Rattle.bus.specs.Meaning.{Keeps, Meaning, Sound}
 use Rattle.bus.specs.declared.request.Access.{Access}
@@ -7,7 +7,7 @@ use Rattle.bus.specs.declared.request.Answer.{Answer}
 use Rattle.bus.specs.declared.request.Request.{Request}
 use Rattle.book.specs.Instant.{asked}
 use Rattle.microprogram.proofs.Ends.{rows_end}
-use Rattle.microprogram.specs.Bounds.{accesses, all, ending, sound, successors}
+use Rattle.microprogram.specs.Bounds.{accesses, all, ending, successors}
 use Rattle.microprogram.specs.Cycle.{State, access, ends, requested}
 use Rattle.microprogram.specs.Registers.{Regs}
 use Rattle.microprogram.specs.declared.fault.Fault.{Fault}
@@ -15,7 +15,6 @@ use Rattle.r3000.specs.Cycle.{Cycle}
 use Rattle.r3000.specs.Machine.{History, Machine, built, hand, with_lines}
 use Rattle.r3000.proofs.Answered.{fixed, frozen, waiting}
 use Rattle.r3000.proofs.Successors.{follows, left, right}
-use Rattle.rows.specs.Rows.{row_at}
 use Rattle.rows.specs.declared.row.Transfer.{Transfer}
 use Rattle.rows.specs.declared.row.Transfer.TheVariants as m
 

@@ -1,8 +1,8 @@
 -- The row that follows is one of the successors, and before a boundary it does not depend on the lines. Assumes nothing.
-use Rattle.std.proofs.Common.{◌≡◌, ℕ, zero, suc, ◌+◌, ◌*◌, ◌/◌, ◌%◌, ◌<◌, Bool, true, false, cond, ◌&&◌, T, List, [], ◌∷◌, refl, ap, subst, suc-mul, arith}
+use Rattle.std.proofs.Common.{◌≡◌, ℕ, zero, suc, ◌+◌, ◌*◌, ◌/◌, ◌%◌, ◌<◌, Bool, true, false, ◌&&◌, T, refl, suc-mul, arith}
 use Rattle.std.proofs.lemmas.Bool.{true≢false}
 use Rattle.microprogram.specs.Bounds.{all, spread, successors}
-use Rattle.microprogram.specs.Cycle.{State, advanced, ends, following, interrupting, resetting}
+use Rattle.microprogram.specs.Cycle.{ends, following, interrupting, resetting}
 use Rattle.microprogram.specs.Registers.{Regs}
 use Rattle.microprogram.specs.Word.{bit, function, opcode, system}
 use Rattle.rows.specs.Operation.{one_if}

@@ -2,7 +2,7 @@ use Rattle.std.proofs.Common.{◌≡◌, Result, sym, refl, ap, ◌∙◌, subst
 use Rattle.r3000.specs.Calls.{Runs}
 use Rattle.r3000.specs.Core.{Anything, machine}
 use Rattle.r3000.specs.Machine.{Machine}
-use Rattle.jobs.specs.Station.{LateObeys, lined, ran, shown}
+use Rattle.jobs.specs.Station.{LateObeys, lined, shown}
 use Rattle.lines.specs.declared.fault.JobFault.{JobFault}
 use Rattle.lines.specs.declared.order.Order.{Order}
 use Rattle.lines.specs.declared.reply.Reply.{Reply}

@@ -1,4 +1,4 @@
-use Rattle.std.proofs.Common.{◌≡◌, take, vec_items, sym, refl, ap, ◌∙◌, subst₂, arith}
+use Rattle.std.proofs.Common.{◌≡◌, take, vec_items, sym, ap, ◌∙◌, subst₂, arith}
 use Rattle.std.proofs.lemmas.List.{take_all, take_more}
 use Rattle.r3000.specs.Core.{machine}
 use Rattle.r3000.specs.Machine.{History, built, fresh}

@@ -4,4 +4,4 @@ use Rattle.lines.proofs.writing.Line.next.Goals as goal
 
 pub returns : goal.returns
 returns c =
-    c.in-ok-number.ensures ∙ ap (λ xs. xs ++ digits (c.args.width % 17) c.args.value) c.in-ok-push.ensures.items ∙ append_assoc (vec_items c.args.self.now.bytes) (32 ∷ []) (digits (c.args.width % 17) c.args.value)
+    c.in_ok-number.ensures ∙ ap (λ xs. xs ++ digits (c.args.width % 17) c.args.value) c.in_ok-push.ensures.items ∙ append_assoc (vec_items c.args.self.now.bytes) (32 ∷ []) (digits (c.args.width % 17) c.args.value)

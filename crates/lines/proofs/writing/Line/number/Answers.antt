@@ -4,5 +4,5 @@ use Rattle.lines.proofs.writing.Line.number.Goals as goal
 
 pub loop-place-preserved : goal.loop-place-preserved
 loop-place-preserved c =
-    digit_more (vec_items c.loop-place.self.bytes) _ c.args.value c.loop-place.place c.byte.result c.loop-place-test.true c.in-ok-push.ensures.items c.byte.ensures
+    digit_more (vec_items c.loop-place.self.bytes) _ c.args.value c.loop-place.place c.byte.result c.loop-place-test.true c.in_ok-push.ensures.items c.byte.ensures
     ∙ c.loop-place.invariant

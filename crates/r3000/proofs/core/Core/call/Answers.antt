@@ -1,6 +1,6 @@
 use Rattle.std.proofs.Common.{◌≡◌, sym, refl, ap, subst}
-use Rattle.r3000.specs.Core.{Anything, machine}
-use Rattle.r3000.specs.Machine.{History, Machine}
+use Rattle.r3000.specs.Core.{Anything}
+use Rattle.r3000.specs.Machine.{Machine}
 use Rattle.r3000.specs.Played.{Called}
 use Rattle.r3000.specs.declared.call.Call.{Call}
 use Rattle.r3000.specs.declared.call.Reply.{Reply}
