@@ -13,7 +13,7 @@ use bus::settle::settle;
 use lines::fault::{JobFault, LoadFault};
 use lines::order::Order;
 use lines::reply::{Counts, Reply};
-use r3000::core::Core;
+use r3000::cpu::Core;
 use r3000::denial::Denial;
 use r3000::report::Report;
 

@@ -4,7 +4,7 @@ use Rattle.microprogram.specs.Cycle.{State, seen}
 use Rattle.microprogram.specs.Word.{causes}
 use Rattle.r3000.specs.Machine.{History, Machine}
 use Rattle.microprogram.specs.declared.chip.Chip.{Chip}
-use Rattle.r3000.specs.declared.core.Core.{Core}
+use Rattle.r3000.specs.declared.cpu.Core.{Core}
 use Rattle.r3000.specs.declared.counts.Counts.{Counts}
 
 abbrev pub made : {B : Type 0} → History → Chip → ℕ → Counts → B → Machine B

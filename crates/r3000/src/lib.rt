@@ -3,9 +3,9 @@
 #![tactic(auto)]
 
 pub mod call;
-pub mod core;
 mod counting;
 mod counts;
+pub mod cpu;
 mod cycle;
 pub mod denial;
 pub mod perform;

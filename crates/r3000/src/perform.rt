@@ -4,7 +4,7 @@ ghost use Rattle.r3000.specs.Core.{Happens, Anything};
 ghost use Rattle.r3000.specs.Played.{Called, Handed};
 
 use super::call::{Call, Reply};
-use super::core::Core;
+use super::cpu::Core;
 use bus::memory::Bus;
 use std::alloc::Global;
 

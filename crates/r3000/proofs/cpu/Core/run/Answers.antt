@@ -5,7 +5,7 @@ use Rattle.r3000.specs.Cycle.{Cycles}
 use Rattle.r3000.specs.Machine.{History, fresh}
 use Rattle.r3000.specs.declared.report.Report.{Report}
 use Rattle.r3000.proofs.Made.{as_many, denied, run_granted, undenied}
-use Rattle.r3000.proofs.core.Core.run.Goals as goal
+use Rattle.r3000.proofs.cpu.Core.run.Goals as goal
 
 pub returns-in-Some : goal.returns-in-Some
 returns-in-Some g c h = (h, denied Report (run_denial c.args.count c.args.self.now.counts.report) c.in-Some.denial (machine h c.args.self.now) _ c.in-Some.ensures)

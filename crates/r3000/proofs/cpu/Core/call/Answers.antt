@@ -5,8 +5,8 @@ use Rattle.r3000.specs.Played.{Called}
 use Rattle.r3000.specs.declared.call.Call.{Call}
 use Rattle.r3000.specs.declared.call.Reply.{Reply}
 use Rattle.r3000.specs.declared.call.Reply.TheVariants as reply
-use Rattle.r3000.proofs.core.Core.call.Given as given
-use Rattle.r3000.proofs.core.Core.call.Goals as goal
+use Rattle.r3000.proofs.cpu.Core.call.Given as given
+use Rattle.r3000.proofs.cpu.Core.call.Goals as goal
 
 -- what was shown of the call in hand is shown of the one that was passed
 called : (g : given.Over) (b d : Machine g.row.B.Denot) (x y : Call) (r : Reply) → x ≡ y → Called g.B.Bus.means g.B.Bus.steps Anything b y r d → Called g.B.Bus.means g.B.Bus.steps Anything b x r d
