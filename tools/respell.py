@@ -7,6 +7,7 @@ Renames what specs/ and proofs/ define, where they and the clauses of src/ name 
 types of src/, file names, comments, strings, programs' inputs and outputs, and names that Rattle makes stay. `accessOf` becomes
 `access_of` and `moved-bound` `moved_bound`; a dash stays where it joins the names of two functions. `result`, which clauses now say
 of what a function returns, becomes `result_of`. Stops, with nothing written, where two names would fall together.
+It goes by text: what is spelled like a name of ours in a file of proofs, be it the library's or made by Rattle, is renamed with it.
 """
 
 import os
