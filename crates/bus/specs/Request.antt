@@ -9,6 +9,13 @@ use Rattle.bus.specs.declared.request.Request.{Request}
 use Rattle.bus.specs.declared.request.Width.{Width}
 use Rattle.bus.specs.declared.request.Width.TheVariants.{Word, Half, Byte}
 
+-- the requests that ask for a word, and that ask to write
+abbrev pub reading : ℕ → Request
+reading address = record { address = address; action = action.Read }
+
+abbrev pub writing : Width → ℕ → ℕ → Request
+writing w address d = record { address = address; action = action.Write w d }
+
 -- the kind of an action: read word, write word, write half or write byte
 abbrev pub kind_of : Action → Kind
 kind_of action.Read = kind.Read

@@ -1,7 +1,7 @@
 //! What is asked of a memory, and what it answers.
 
 ghost use Rattle.std.specs.Prelude.{◌≡◌};
-ghost use Rattle.bus.specs.Request.{access_of, kind_of, same, word_of};
+ghost use Rattle.bus.specs.Request.{access_of, kind_of, reading, same, word_of, writing};
 
 /// The name of the word that an address lies in: the address with its two low bits cleared.
 pub fn word_of(address: u32) -> u32
@@ -50,23 +50,42 @@ pub struct Request {
     pub action: Action,
 }
 
-/// A request without its data.
-#[derive(Clone, Copy)]
+/// A request without its data: two requests are the same when kind and address agree.
+#[derive(Clone, Copy, PartialEq, Eq)]
 pub struct Access {
     pub address: u32,
     pub kind: Kind,
 }
 
 impl Access {
-    /// Two requests are the same when kind and address agree.
     pub fn same(self, other: Access) -> bool
         ensures { result ≡ same self other }
     {
-        self.address == other.address && self.kind == other.kind
+        self == other
     }
 }
 
 impl Request {
+    /// Asks for the word of an address.
+    pub const fn read(address: u32) -> Request
+        ensures { result ≡ reading address }
+    {
+        Request {
+            address,
+            action: Action::Read,
+        }
+    }
+
+    /// Asks to write the low bits of the data.
+    pub const fn write(width: Width, address: u32, data: u32) -> Request
+        ensures { result ≡ writing width address «data» }
+    {
+        Request {
+            address,
+            action: Action::Write(width, data),
+        }
+    }
+
     pub fn access(self) -> Access
         ensures { result ≡ access_of self }
     {

@@ -36,14 +36,10 @@ fn end(request: Request, answer: Answer) -> Option<Result<u32, BusFault>>
 pub fn settle<B: Bus>(bus: &mut B, request: Request) -> Settled
     ensures { Settles B.Bus.means B.Bus.steps bus.old request result bus.new }
 {
-    let most = u32::from(bus.longest_wait()) + 1;
-    for asked in 0..most {
+    for waits in 0..=bus.longest_wait() {
         let answer = bus.request(request);
         if let Some(outcome) = end(request, answer) {
-            return Settled {
-                waits: asked as u16,
-                outcome,
-            };
+            return Settled { waits, outcome };
         }
     }
     unreachable()

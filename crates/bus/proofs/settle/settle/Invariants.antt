@@ -1,5 +1,5 @@
 use Rattle.bus.specs.Settled.{Waited}
 use Rattle.bus.proofs.settle.settle.Given as goal
 
-abbrev pub invariant-loop-asked : goal.invariant-loop-asked
-invariant-loop-asked g l = Waited g.B.Bus.steps l.request l.asked l.initial.bus l.bus
+abbrev pub invariant-loop-waits : goal.invariant-loop-waits
+invariant-loop-waits g l = Waited g.B.Bus.steps l.request l.waits l.initial.bus l.bus
