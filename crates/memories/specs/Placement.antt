@@ -20,6 +20,10 @@ bounded base n = nat_le 4 n && nat_le n 1048576 && nat_le (base + n) (2 ^ 32)
 abbrev pub placement : ℕ → ℕ → Result (Unit {0}) Misplaced
 placement base n = cond (aligned base n) (cond (bounded base n) (Ok tt) (Err OutOfBounds)) (Err Unaligned)
 
+-- how many bytes stand at a base: all, or none where the placement is denied
+abbrev pub standing : ℕ → ℕ → ℕ
+standing base n = cond (aligned base n && bounded base n) n 0
+
 -- the bytes that a memory has at a base: none where the placement is denied, so that it then refuses everything
 abbrev pub placed : ℕ → List ℕ → List ℕ
 placed base bytes = cond (aligned base (length bytes) && bounded base (length bytes)) bytes []

@@ -1,7 +1,7 @@
 //! Where a memory may stand.
 
 ghost use Rattle.std.specs.Prelude.{◌≡◌};
-ghost use Rattle.memories.specs.Placement.{number, placement};
+ghost use Rattle.memories.specs.Placement.{number, placement, standing};
 
 /// The longest memory, in bytes.
 pub const MAX_LENGTH: usize = 1_048_576;
@@ -10,9 +10,9 @@ pub const MAX_LENGTH: usize = 1_048_576;
 #[derive(Clone, Copy, PartialEq, Eq)]
 pub enum Misplaced {
     /// The base or the length is no multiple of 4.
-    Unaligned,
+    Unaligned = 6,
     /// The length is outside 4 to 1,048,576, or the range ends beyond the last address.
-    OutOfBounds,
+    OutOfBounds = 7,
 }
 
 impl Misplaced {
@@ -20,10 +20,7 @@ impl Misplaced {
     pub fn number(self) -> u8
         ensures { result ≡ number self }
     {
-        match self {
-            Misplaced::Unaligned => 6,
-            Misplaced::OutOfBounds => 7,
-        }
+        self as u8
     }
 }
 
@@ -40,4 +37,11 @@ pub fn check_placement(base: u32, length: usize) -> Result<(), Misplaced>
     } else {
         Ok(())
     }
+}
+
+/// How many bytes stand at `base`: all of them, or none where the placement is denied.
+pub(crate) fn placed_length(base: u32, length: usize) -> usize
+    ensures { result ≡ standing base length }
+{
+    check_placement(base, length).map_or(0, |()| length)
 }

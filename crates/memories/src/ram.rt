@@ -1,20 +1,35 @@
 //! RAM: the caller's bytes at a base.
 
-ghost use Rattle.std.specs.Prelude.{◌≡◌};
+ghost use Rattle.std.specs.Prelude.{◌≡◌, ℕ, ◌-◌, length, if◌then◌else◌};
+ghost use Rattle.bus.specs.Meaning.{stored};
+ghost use Rattle.bus.specs.Request.{word_of, first, size};
+ghost use Rattle.bus.specs.declared.request.Answer.TheVariants.{BusError, Done};
 ghost use Rattle.memories.specs.Keeps.Region.{ram_keeps};
 ghost use Rattle.memories.specs.Placement.{placed};
 ghost use Rattle.memories.specs.Ram.{RamSteps, ram_means};
-ghost use Rattle.memories.specs.Region.{ram};
+ghost use Rattle.memories.specs.Region.{held, outside, ram};
 
-use super::placement::check_placement;
-use super::region;
+use super::placement::placed_length;
+use super::region::{LONGEST_WAIT, Region};
 use bus::memory::Bus;
-use bus::request::{Answer, Request};
+use bus::request::{Action, Answer, Request, Width};
 
 #[derive(Drop)]
 pub struct Ram<'a> {
-    base: u32,
-    bytes: &'a mut [u8],
+    pub(crate) base: u32,
+    pub(crate) bytes: &'a mut [u8],
+}
+
+/// Where in its word a write begins: a word write ignores two low address bits, a half write one.
+fn lane(width: Width, address: u32) -> usize
+    ensures { result ≡ first width address - word_of address }
+{
+    let byte = (address % 4) as usize;
+    match width {
+        Width::Word => 0,
+        Width::Half => byte - byte % 2,
+        Width::Byte => byte,
+    }
 }
 
 impl<'a> Ram<'a> {
@@ -22,12 +37,61 @@ impl<'a> Ram<'a> {
     pub fn new(base: u32, bytes: &'a mut [u8]) -> Ram<'a>
         ensures { ram_means result ≡ ram base (placed base bytes.old) }
     {
-        match check_placement(base, bytes.len()) {
-            Ok(()) => Ram { base, bytes },
-            Err(_) => Ram {
-                base,
-                bytes: &mut bytes[0..0],
-            },
+        let length = placed_length(base, bytes.len());
+        Ram {
+            base,
+            bytes: &mut bytes[..length],
+        }
+    }
+}
+
+impl Ram<'_> {
+    fn region(&self) -> Region<'_>
+        ensures base { result.base ≡ self.now.base }
+        ensures bytes { result.bytes.now ≡ self.now.bytes.now }
+    {
+        Region {
+            base: self.base,
+            bytes: self.bytes,
+        }
+    }
+
+    fn write(&mut self, width: Width, address: u32, data: u32) -> Answer
+        ensures answered { result ≡ (if outside self.old.base (length self.old.bytes.now) (word_of address) then BusError else Done 0) }
+        ensures same_reference { self.new.bytes.ghost_name ≡ self.old.bytes.ghost_name }
+        ensures based { self.new.base ≡ self.old.base }
+        ensures sized { length self.new.bytes.now ≡ length self.old.bytes.now }
+        ensures bytes { (x : ℕ) → held self.new.base self.new.bytes.now x ≡ (if outside self.old.base (length self.old.bytes.now) (word_of address) then held self.old.base self.old.bytes.now x else stored (first width address) (size width) «data» (held self.old.base self.old.bytes.now) x) }
+    {
+        let Some(at) = self.region().offset(address) else {
+            return Answer::BusError;
+        };
+        let start = at + lane(width, address);
+        let [b0, b1, b2, b3] = data.to_le_bytes();
+        match width {
+            Width::Word => {
+                self.bytes[start] = b0;
+                self.bytes[start + 1] = b1;
+                self.bytes[start + 2] = b2;
+                self.bytes[start + 3] = b3;
+            }
+            Width::Half => {
+                self.bytes[start] = b0;
+                self.bytes[start + 1] = b1;
+            }
+            Width::Byte => self.bytes[start] = b0,
+        }
+        Answer::Done(0)
+    }
+
+    /// One request of bytes that can be read and written.
+    pub(crate) fn answer(&mut self, q: Request) -> Answer
+        ensures same_reference { self.new.bytes.ghost_name ≡ self.old.bytes.ghost_name }
+        ensures moves { RamSteps self.old q result self.new }
+    {
+        match q.action {
+            Action::Read => self.region().read(q.address),
+            Action::Write(width, data) => self.write(width, q.address, data),
         }
     }
 }
@@ -40,14 +104,14 @@ impl Bus for Ram<'_> {
     ghost keeps = { ram_keeps };
 
     fn request(&mut self, q: Request) -> Answer {
-        region::request(self.base, self.bytes, q)
+        self.answer(q)
     }
 
     fn look(&self, address: u32) -> Option<u8> {
-        region::look(self.base, self.bytes, address)
+        self.region().look(address)
     }
 
     fn longest_wait(&self) -> u16 {
-        region::LONGEST_WAIT
+        LONGEST_WAIT
     }
 }

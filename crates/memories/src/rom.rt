@@ -5,15 +5,14 @@ ghost use Rattle.memories.specs.Keeps.Region.{rom_keeps};
 ghost use Rattle.memories.specs.Placement.{placed};
 ghost use Rattle.memories.specs.Rom.{RomSteps, rom, rom_means};
 
-use super::placement::check_placement;
-use super::region;
+use super::placement::placed_length;
+use super::region::{LONGEST_WAIT, Region};
 use bus::memory::Bus;
 use bus::request::{Action, Answer, Request};
 
 #[derive(Drop)]
 pub struct Rom<'a> {
-    base: u32,
-    bytes: &'a [u8],
+    region: Region<'a>,
 }
 
 impl<'a> Rom<'a> {
@@ -21,11 +20,11 @@ impl<'a> Rom<'a> {
     pub fn new(base: u32, bytes: &'a [u8]) -> Rom<'a>
         ensures { rom_means result ≡ rom base (placed base bytes.now) }
     {
-        match check_placement(base, bytes.len()) {
-            Ok(()) => Rom { base, bytes },
-            Err(_) => Rom {
+        let length = placed_length(base, bytes.len());
+        Rom {
+            region: Region {
                 base,
-                bytes: &bytes[0..0],
+                bytes: &bytes[..length],
             },
         }
     }
@@ -40,16 +39,16 @@ impl Bus for Rom<'_> {
 
     fn request(&mut self, q: Request) -> Answer {
         match q.action {
-            Action::Read => region::read(self.base, self.bytes, q.address),
+            Action::Read => self.region.read(q.address),
             Action::Write(_, _) => Answer::BusError,
         }
     }
 
     fn look(&self, address: u32) -> Option<u8> {
-        region::look(self.base, self.bytes, address)
+        self.region.look(address)
     }
 
     fn longest_wait(&self) -> u16 {
-        region::LONGEST_WAIT
+        LONGEST_WAIT
     }
 }

@@ -7,7 +7,8 @@ ghost use Rattle.memories.specs.Region.{ram};
 ghost use Rattle.memories.specs.Scratch.{ScratchSteps, scratch_means};
 
 use super::placement::check_placement;
-use super::region;
+use super::ram::Ram;
+use super::region::{LONGEST_WAIT, Region};
 use bus::memory::Bus;
 use bus::request::{Answer, Request};
 
@@ -17,9 +18,8 @@ pub const LENGTH: usize = 256;
 #[derive(Drop)]
 pub struct Scratch {
     base: u32,
-    bytes: [u8; LENGTH],
-    // whether the placement was allowed
-    stands: bool,
+    /// None where the placement was denied.
+    bytes: Option<[u8; LENGTH]>,
 }
 
 impl Scratch {
@@ -27,10 +27,10 @@ impl Scratch {
     pub fn new(base: u32) -> Scratch
         ensures { scratch_means result ≡ ram base (placed base (replicate 256 0)) }
     {
+        let stands = check_placement(base, LENGTH).is_ok();
         Scratch {
             base,
-            bytes: [0; LENGTH],
-            stands: check_placement(base, LENGTH).is_ok(),
+            bytes: stands.then_some([0; LENGTH]),
         }
     }
 }
@@ -43,22 +43,20 @@ impl Bus for Scratch {
     ghost keeps = { scratch_keeps };
 
     fn request(&mut self, q: Request) -> Answer {
-        if self.stands {
-            region::request(self.base, &mut self.bytes, q)
-        } else {
-            Answer::BusError
+        let base = self.base;
+        match &mut self.bytes {
+            Some(bytes) => Ram { base, bytes }.answer(q),
+            None => Answer::BusError,
         }
     }
 
     fn look(&self, address: u32) -> Option<u8> {
-        if self.stands {
-            region::look(self.base, &self.bytes, address)
-        } else {
-            None
-        }
+        let base = self.base;
+        let bytes = self.bytes.as_ref()?;
+        Region { base, bytes }.look(address)
     }
 
     fn longest_wait(&self) -> u16 {
-        region::LONGEST_WAIT
+        LONGEST_WAIT
     }
 }

@@ -5,21 +5,7 @@ use super::ram::Ram;
 use super::rom::Rom;
 use super::scratch::Scratch;
 use bus::memory::Bus;
-use bus::request::{Action, Answer, Request, Width};
-
-const fn read(address: u32) -> Request {
-    Request {
-        address,
-        action: Action::Read,
-    }
-}
-
-const fn write(width: Width, address: u32, data: u32) -> Request {
-    Request {
-        address,
-        action: Action::Write(width, data),
-    }
-}
+use bus::request::{Answer, Request, Width};
 
 #[test]
 fn both_denials(rt: HostRuntime) {
@@ -37,12 +23,12 @@ fn both_denials(rt: HostRuntime) {
 fn ram_at_its_edges(rt: HostRuntime) {
     let mut bytes = [0x11, 0x22, 0x33, 0x44, 0x55, 0x66, 0x77, 0x88];
     let mut ram = Ram::new(0x100, &mut bytes);
-    assert!(rt; ram.request(read(0xFF)) == Answer::BusError);
-    assert!(rt; ram.request(read(0x102)) == Answer::Done(0x4433_2211));
-    assert!(rt; ram.request(read(0x108)) == Answer::BusError);
-    assert!(rt; ram.request(write(Width::Half, 0x107, 0xABCD)) == Answer::Done(0));
-    assert!(rt; ram.request(write(Width::Byte, 0x105, 0x1EE)) == Answer::Done(0));
-    assert!(rt; ram.request(read(0x107)) == Answer::Done(0xABCD_EE55));
+    assert!(rt; ram.request(Request::read(0xFF)) == Answer::BusError);
+    assert!(rt; ram.request(Request::read(0x102)) == Answer::Done(0x4433_2211));
+    assert!(rt; ram.request(Request::read(0x108)) == Answer::BusError);
+    assert!(rt; ram.request(Request::write(Width::Half, 0x107, 0xABCD)) == Answer::Done(0));
+    assert!(rt; ram.request(Request::write(Width::Byte, 0x105, 0x1EE)) == Answer::Done(0));
+    assert!(rt; ram.request(Request::read(0x107)) == Answer::Done(0xABCD_EE55));
     assert_eq!(rt; ram.look(0x107), Some(0xAB));
     assert_eq!(rt; ram.look(0x108), None);
 }
@@ -51,12 +37,14 @@ fn ram_at_its_edges(rt: HostRuntime) {
 fn rom_and_scratch_at_their_edges(rt: HostRuntime) {
     let bytes = [1, 2, 3, 4];
     let mut rom = Rom::new(0xFFFF_FFFC, &bytes);
-    assert!(rt; rom.request(read(0xFFFF_FFFF)) == Answer::Done(0x0403_0201));
-    assert!(rt; rom.request(write(Width::Byte, 0xFFFF_FFFC, 9)) == Answer::BusError);
+    assert!(rt; rom.request(Request::read(0xFFFF_FFFF)) == Answer::Done(0x0403_0201));
+    assert!(rt; rom.request(Request::write(Width::Byte, 0xFFFF_FFFC, 9)) == Answer::BusError);
     let mut scratch = Scratch::new(0x200);
-    assert!(rt; scratch.request(write(Width::Word, 0x2FF, 0xDEAD_BEEF)) == Answer::Done(0));
+    assert!(rt;
+        scratch.request(Request::write(Width::Word, 0x2FF, 0xDEAD_BEEF)) == Answer::Done(0)
+    );
     assert_eq!(rt; scratch.look(0x2FC), Some(0xEF));
-    assert!(rt; scratch.request(read(0x300)) == Answer::BusError);
+    assert!(rt; scratch.request(Request::read(0x300)) == Answer::BusError);
     let mut nowhere = Scratch::new(0x202);
-    assert!(rt; nowhere.request(read(0x204)) == Answer::BusError);
+    assert!(rt; nowhere.request(Request::read(0x204)) == Answer::BusError);
 }
