@@ -1,13 +1,11 @@
 //! RAM: the caller's bytes at a base.
 
-ghost use Rattle.std.specs.Prelude.{◌≡◌, ℕ, ◌-◌, length, if◌then◌else◌};
-ghost use Rattle.bus.specs.Meaning.{stored};
-ghost use Rattle.bus.specs.Request.{word_of, first, size};
-ghost use Rattle.bus.specs.declared.request.Answer.TheVariants.{BusError, Done};
+ghost use Rattle.std.specs.Prelude.{◌≡◌, ◌-◌};
+ghost use Rattle.bus.specs.Request.{word_of, first, writing};
 ghost use Rattle.memories.specs.Keeps.Region.{ram_keeps};
 ghost use Rattle.memories.specs.Placement.{placed};
 ghost use Rattle.memories.specs.Ram.{RamSteps, ram_means};
-ghost use Rattle.memories.specs.Region.{held, outside, ram};
+ghost use Rattle.memories.specs.Region.{ram};
 
 use super::placement::placed_length;
 use super::region::{LONGEST_WAIT, Region};
@@ -57,11 +55,8 @@ impl Ram<'_> {
     }
 
     fn write(&mut self, width: Width, address: u32, data: u32) -> Answer
-        ensures answered { result ≡ (if outside self.old.base (length self.old.bytes.now) (word_of address) then BusError else Done 0) }
         ensures same_reference { self.new.bytes.ghost_name ≡ self.old.bytes.ghost_name }
-        ensures based { self.new.base ≡ self.old.base }
-        ensures sized { length self.new.bytes.now ≡ length self.old.bytes.now }
-        ensures bytes { (x : ℕ) → held self.new.base self.new.bytes.now x ≡ (if outside self.old.base (length self.old.bytes.now) (word_of address) then held self.old.base self.old.bytes.now x else stored (first width address) (size width) «data» (held self.old.base self.old.bytes.now) x) }
+        ensures moves { RamSteps self.old (writing width address «data») result self.new }
     {
         let Some(at) = self.region().offset(address) else {
             return Answer::BusError;
