@@ -1,47 +1,35 @@
 //! Delay: a memory that answers later.
 
-ghost use Rattle.std.specs.Prelude.{◌≡◌};
-ghost use Rattle.layers.specs.Delay.{DelaySteps, delay, delay_means, ended, left, lowered};
+ghost use Rattle.std.specs.Prelude.{◌≡◌, None};
+ghost use Rattle.layers.specs.Delay.{DelaySteps, delay, delay_means, left, lowered};
 ghost use Rattle.layers.specs.Keeps.Delay.{delay_keeps};
-ghost use Rattle.layers.specs.declared.delay.State.TheVariants.{Idle};
 
 use bus::memory::Bus;
 use bus::request::{Access, Answer, Request};
 
-/// Idle, or counting for one request down to 0.
+/// A request that is counted for, and what is left of its count.
 #[derive(Clone, Copy)]
-pub enum State {
-    Idle,
-    Counting(Access, u8),
-}
-
-impl State {
-    /// The state once the memory below has answered: only a wait is counted on.
-    fn after(asked: Access, answer: Answer) -> State
-        ensures { result ≡ ended asked answer }
-    {
-        match answer {
-            Answer::Wait => State::Counting(asked, 0),
-            Answer::BusError | Answer::Done(_) => State::Idle,
-        }
-    }
+pub struct Counting {
+    pub access: Access,
+    pub count: u8,
 }
 
 #[derive(Drop)]
 pub struct Delay<B> {
     n: u8,
-    state: State,
+    /// None while the delay is idle.
+    counting: Option<Counting>,
     below: B,
 }
 
 impl<B: Bus> Delay<B> {
     /// Lets each request wait `n` times more.
     pub fn new(n: u8, below: B) -> Delay<B>
-        ensures { delay_means B.Bus.means result ≡ delay n Idle (B.Bus.means below) }
+        ensures { delay_means B.Bus.means result ≡ delay n None (B.Bus.means below) }
     {
         Delay {
             n,
-            state: State::Idle,
+            counting: None,
             below,
         }
     }
@@ -55,11 +43,11 @@ impl<B: Bus> Delay<B> {
 
     /// The count at which a request goes on.
     fn left(&self, asked: Access) -> u8
-        ensures { result ≡ left (lowered self.now.n (B.Bus.means self.now.below).longest) self.now.state asked }
+        ensures { result ≡ left (lowered self.now.n (B.Bus.means self.now.below).longest) self.now.counting asked }
     {
         let n = self.own_waits();
-        match (self.state, asked) {
-            (State::Counting(counted, count), asked) if counted.same(asked) => count.min(n),
+        match (self.counting, asked) {
+            (Some(counting), asked) if counting.access.same(asked) => counting.count.min(n),
             _ => n,
         }
     }
@@ -76,11 +64,17 @@ impl<B: Bus> Bus for Delay<B> {
         let asked = q.access();
         let left = self.left(asked);
         if left > 0 {
-            self.state = State::Counting(asked, left - 1);
+            self.counting = Some(Counting {
+                access: asked,
+                count: left - 1,
+            });
             return Answer::Wait;
         }
         let answer = self.below.request(q);
-        self.state = State::after(asked, answer);
+        self.counting = (answer == Answer::Wait).then_some(Counting {
+            access: asked,
+            count: 0,
+        });
         answer
     }
 

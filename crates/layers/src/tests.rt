@@ -4,33 +4,19 @@ use super::delay::Delay;
 use super::split::Split;
 use super::window::Window;
 use bus::memory::Bus;
-use bus::request::{Action, Answer, Request, Width};
+use bus::request::{Answer, Request, Width};
 use bus::settle::{BusFault, Settled, settle};
 use memories::ram::Ram;
 use memories::scratch::Scratch;
 
-const fn read(address: u32) -> Request {
-    Request {
-        address,
-        action: Action::Read,
-    }
-}
-
-const fn write_word(address: u32, data: u32) -> Request {
-    Request {
-        address,
-        action: Action::Write(Width::Word, data),
-    }
-}
-
 #[test]
 fn a_delay_interrupted(rt: HostRuntime) {
     let mut delay = Delay::new(2, Scratch::new(0));
-    assert!(rt; delay.request(read(0)) == Answer::Wait);
-    assert!(rt; delay.request(read(4)) == Answer::Wait);
-    assert!(rt; delay.request(read(0)) == Answer::Wait);
-    assert!(rt; delay.request(read(0)) == Answer::Wait);
-    assert!(rt; delay.request(read(0)) == Answer::Done(0));
+    assert!(rt; delay.request(Request::read(0)) == Answer::Wait);
+    assert!(rt; delay.request(Request::read(4)) == Answer::Wait);
+    assert!(rt; delay.request(Request::read(0)) == Answer::Wait);
+    assert!(rt; delay.request(Request::read(0)) == Answer::Wait);
+    assert!(rt; delay.request(Request::read(0)) == Answer::Done(0));
     assert_eq!(rt; delay.longest_wait(), 2);
 }
 
@@ -40,14 +26,14 @@ fn a_pile_of_three_layers(rt: HostRuntime) {
     let mut high = [0u8; 8];
     let split = Split::new(0x103, Ram::new(0xF8, &mut low), Ram::new(0x100, &mut high));
     let mut pile = Window::new(0xFB, 0x13, Delay::new(2, split));
-    let done = settle(&mut pile, write_word(4, 0x0A0B_0C0D));
+    let done = settle(&mut pile, Request::write(Width::Word, 4, 0x0A0B_0C0D));
     assert!(rt;
         done == Settled {
             waits: 2,
             outcome: Ok(0),
         }
     );
-    let done = settle(&mut pile, write_word(8, 0x0102_0304));
+    let done = settle(&mut pile, Request::write(Width::Word, 8, 0x0102_0304));
     assert!(rt;
         done == Settled {
             waits: 2,
@@ -55,7 +41,7 @@ fn a_pile_of_three_layers(rt: HostRuntime) {
         }
     );
     assert!(rt;
-        settle(&mut pile, read(4))
+        settle(&mut pile, Request::read(4))
             == Settled {
                 waits: 2,
                 outcome: Ok(0x0A0B_0C0D),
@@ -64,7 +50,7 @@ fn a_pile_of_three_layers(rt: HostRuntime) {
     assert_eq!(rt; pile.look(8), Some(4));
     let refused = BusFault { address: 0x10 };
     assert!(rt;
-        settle(&mut pile, read(0x10))
+        settle(&mut pile, Request::read(0x10))
             == Settled {
                 waits: 0,
                 outcome: Err(refused),

@@ -1,8 +1,8 @@
 //! Window: a part of a memory, seen from address 0 up to a limit.
 
-ghost use Rattle.std.specs.Prelude.{◌≡◌};
+ghost use Rattle.std.specs.Prelude.{◌≡◌, if◌then◌else◌, Some, None, nat_lt};
 ghost use Rattle.layers.specs.Keeps.Window.{window_keeps};
-ghost use Rattle.layers.specs.Window.{WindowSteps, window, window_means};
+ghost use Rattle.layers.specs.Window.{WindowSteps, end, onto, window, window_means};
 
 use bus::memory::Bus;
 use bus::request::{Answer, Request, word_of};
@@ -23,6 +23,16 @@ impl<B: Bus> Window<B> {
     }
 }
 
+impl<B> Window<B> {
+    /// The address below that an address of the window stands for; none from the limit up.
+    fn onto(&self, address: u32) -> Option<u32>
+        ensures { result ≡ (if nat_lt address (end self.now.limit) then Some (onto self.now.base address) else None) }
+    {
+        let within = address < word_of(self.limit);
+        within.then_some(word_of(self.base).wrapping_add(address))
+    }
+}
+
 impl<B: Bus> Bus for Window<B> {
     ghost means = { window_means B.Bus.means };
 
@@ -31,20 +41,14 @@ impl<B: Bus> Bus for Window<B> {
     ghost keeps = { window_keeps B.Bus.keeps };
 
     fn request(&mut self, q: Request) -> Answer {
-        if q.address >= word_of(self.limit) {
-            return Answer::BusError;
+        match self.onto(q.address) {
+            Some(address) => self.below.request(Request { address, ..q }),
+            None => Answer::BusError,
         }
-        self.below.request(Request {
-            address: word_of(self.base).wrapping_add(q.address),
-            ..q
-        })
     }
 
     fn look(&self, address: u32) -> Option<u8> {
-        if address >= word_of(self.limit) {
-            return None;
-        }
-        self.below.look(word_of(self.base).wrapping_add(address))
+        self.below.look(self.onto(address)?)
     }
 
     fn longest_wait(&self) -> u16 {
