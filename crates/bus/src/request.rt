@@ -1,7 +1,9 @@
 //! What is asked of a memory, and what it answers.
 
-ghost use Rattle.std.specs.Prelude.{◌≡◌};
-ghost use Rattle.bus.specs.Request.{access_of, kind_of, reading, same, word_of, writing};
+ghost use Rattle.std.specs.Prelude.{◌≡◌, Some};
+ghost use Rattle.bus.specs.Request.{access_of, kind_of, name_of, reading, same, word_of, writing};
+
+use std::fmt;
 
 /// The name of the word that an address lies in: the address with its two low bits cleared.
 pub fn word_of(address: u32) -> u32
@@ -16,6 +18,19 @@ pub enum Width {
     Word,
     Half,
     Byte,
+}
+
+impl fmt::Display for Width {
+    ghost output = { λ w. Some (name_of w) };
+
+    fn fmt<W: fmt::Write>(&self, f: &mut fmt::Formatter<W>) -> fmt::Result {
+        let name = match self {
+            Width::Word => "word",
+            Width::Half => "half",
+            Width::Byte => "byte",
+        };
+        f.write_str(name)
+    }
 }
 
 /// The four kinds of request; a read always asks for a word.
@@ -67,7 +82,7 @@ impl Access {
 
 impl Request {
     /// Asks for the word of an address.
-    pub const fn read(address: u32) -> Request
+    pub fn read(address: u32) -> Request
         ensures { result ≡ reading address }
     {
         Request {
@@ -77,7 +92,7 @@ impl Request {
     }
 
     /// Asks to write the low bits of the data.
-    pub const fn write(width: Width, address: u32, data: u32) -> Request
+    pub fn write(width: Width, address: u32, data: u32) -> Request
         ensures { result ≡ writing width address «data» }
     {
         Request {

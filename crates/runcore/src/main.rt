@@ -3,24 +3,21 @@
 #![tactic(auto)]
 
 mod firmware;
-mod pile;
 mod script;
 mod transcript;
 
 use bus::memory::Bus;
-use bus::request::{Action, Request, Width};
+use bus::request::{Request, Width};
 use bus::settle::settle;
 use firmware::Section;
+use pile::job;
 use r3000::perform::perform;
 
 /// Writes the words of a section into the pile, waiting out each.
 fn load<B: Bus>(rt: &HostRuntime, pile: &mut B, section: Section) -> anyhow::Result<()> {
-    let mut address = section.base;
-    for word in section.words {
-        let action = Action::Write(Width::Word, word);
-        let settled = settle(pile, Request { address, action });
-        transcript::loaded(rt, address, word, settled)?;
-        address = address.wrapping_add(4);
+    for (address, word) in (section.base..).step_by(4).zip(section.words) {
+        let settled = settle(pile, Request::write(Width::Word, address, *word));
+        transcript::loaded(rt, address, *word, settled)?;
     }
     Ok(())
 }
@@ -28,9 +25,9 @@ fn load<B: Bus>(rt: &HostRuntime, pile: &mut B, section: Section) -> anyhow::Res
 /// Loads the firmware, starts a core on the pile, and performs the script.
 fn run(rt: &HostRuntime) -> anyhow::Result<()> {
     let heap = rt.alloc();
-    let mut low = vec![in heap; 0u8; pile::LOW_LENGTH]?;
-    let mut high = vec![in heap; 0u8; pile::HIGH_LENGTH]?;
-    let mut pile = pile::pile(&mut low, &mut high);
+    let mut low = vec![in heap; 0u8; job::LOW_LENGTH]?;
+    let mut high = vec![in heap; 0u8; job::HIGH_LENGTH]?;
+    let mut pile = job::pile(&mut low, &mut high);
     load(rt, &mut pile, firmware::RESET)?;
     load(rt, &mut pile, firmware::HANDLER)?;
     let calls = script::calls(heap)?;

@@ -2,7 +2,6 @@
 
 #![tactic(auto)]
 
-mod pile;
 mod script;
 mod transcript;
 

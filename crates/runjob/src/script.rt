@@ -1,6 +1,6 @@
 //! What the program does with the pile.
 
-use bus::request::{Action, Request, Width};
+use bus::request::{Request, Width};
 
 #[derive(Clone, Copy)]
 pub enum Step {
@@ -8,62 +8,27 @@ pub enum Step {
     Look(u32),
 }
 
-use Action::{Read, Write};
 use Step::{Ask, Look};
 use Width::{Byte, Half, Word};
 
 /// Writes of each width and reads in both memories, the words just outside them, and looks at single bytes.
-pub const SCRIPT: [Step; 16] = [
-    Ask(Request {
-        address: 0x8000_0000,
-        action: Write(Word, 0x1234_5678),
-    }),
-    Ask(Request {
-        address: 0x8000_0002,
-        action: Write(Half, 0x0000_BEEF),
-    }),
-    Ask(Request {
-        address: 0x8000_0001,
-        action: Write(Byte, 0x0000_00AA),
-    }),
-    Ask(Request {
-        address: 0x8000_0000,
-        action: Read,
-    }),
-    Ask(Request {
-        address: 0x8000_3FFC,
-        action: Write(Word, 0xFFFF_FFFF),
-    }),
-    Ask(Request {
-        address: 0x8000_3FFF,
-        action: Write(Half, 0x0000_0102),
-    }),
-    Ask(Request {
-        address: 0x8000_3FFC,
-        action: Read,
-    }),
-    Ask(Request {
-        address: 0x8000_4000,
-        action: Read,
-    }),
-    Ask(Request {
-        address: 0x7FFF_FFFF,
-        action: Write(Byte, 0x0000_0001),
-    }),
-    Ask(Request {
-        address: 0xBFC0_0000,
-        action: Write(Word, 0x3C01_1234),
-    }),
-    Ask(Request {
-        address: 0xBFC0_0003,
-        action: Read,
-    }),
-    Ask(Request {
-        address: 0xBFC0_1000,
-        action: Write(Word, 0x0000_0001),
-    }),
-    Look(0x8000_0001),
-    Look(0x8000_3FFF),
-    Look(0xBFC0_0003),
-    Look(0xBFC0_1000),
-];
+pub(crate) fn script() -> [Step; 16] {
+    [
+        Ask(Request::write(Word, 0x8000_0000, 0x1234_5678)),
+        Ask(Request::write(Half, 0x8000_0002, 0x0000_BEEF)),
+        Ask(Request::write(Byte, 0x8000_0001, 0x0000_00AA)),
+        Ask(Request::read(0x8000_0000)),
+        Ask(Request::write(Word, 0x8000_3FFC, 0xFFFF_FFFF)),
+        Ask(Request::write(Half, 0x8000_3FFF, 0x0000_0102)),
+        Ask(Request::read(0x8000_3FFC)),
+        Ask(Request::read(0x8000_4000)),
+        Ask(Request::write(Byte, 0x7FFF_FFFF, 0x0000_0001)),
+        Ask(Request::write(Word, 0xBFC0_0000, 0x3C01_1234)),
+        Ask(Request::read(0xBFC0_0003)),
+        Ask(Request::write(Word, 0xBFC0_1000, 0x0000_0001)),
+        Look(0x8000_0001),
+        Look(0x8000_3FFF),
+        Look(0xBFC0_0003),
+        Look(0xBFC0_1000),
+    ]
+}

@@ -1,33 +1,22 @@
 //! The program's output: each step of the script, and what came of it.
 
-use super::pile;
-use super::script::{SCRIPT, Step};
+use super::script::{Step, script};
 use bus::memory::Bus;
-use bus::request::{Action, Request, Width};
+use bus::request::{Action, Request};
 use bus::settle::{Settled, settle};
+use pile::job;
 use std::fmt;
 
 /// A request as it is printed: what it does, where, and with which data.
 #[derive(Drop)]
 struct Shown(Request);
 
-fn name(width: Width) -> &'static str {
-    match width {
-        Width::Word => "word",
-        Width::Half => "half",
-        Width::Byte => "byte",
-    }
-}
-
 impl fmt::Display for Shown {
     fn fmt<W: fmt::Write>(&self, f: &mut fmt::Formatter<W>) -> fmt::Result {
         let address = self.0.address;
         match self.0.action {
             Action::Read => write!(f, "read word {address:08X}"),
-            Action::Write(width, data) => {
-                let width = name(width);
-                write!(f, "write {width} {address:08X} {data:08X}")
-            }
+            Action::Write(width, data) => write!(f, "write {width} {address:08X} {data:08X}"),
         }
     }
 }
@@ -69,12 +58,12 @@ fn perform<B: Bus>(rt: &HostRuntime, bus: &mut B, step: Step) -> anyhow::Result<
 
 pub(crate) fn run(rt: &HostRuntime) -> anyhow::Result<()> {
     let heap = rt.alloc();
-    let mut low = vec![in heap; 0u8; pile::LOW_LENGTH]?;
-    let mut high = vec![in heap; 0u8; pile::HIGH_LENGTH]?;
-    let mut bus = pile::pile(&mut low, &mut high);
+    let mut low = vec![in heap; 0u8; job::LOW_LENGTH]?;
+    let mut high = vec![in heap; 0u8; job::HIGH_LENGTH]?;
+    let mut bus = job::pile(&mut low, &mut high);
     let longest = bus.longest_wait();
     println!(rt; "longest wait {longest}")?;
-    for step in SCRIPT {
+    for step in script() {
         perform(rt, &mut bus, step)?;
     }
     Ok(())

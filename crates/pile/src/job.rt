@@ -1,10 +1,10 @@
-//! The pile that jobs run on.
+//! One wait for each request, over two RAMs side by side.
 
 ghost use Rattle.std.specs.Prelude.{◌≡◌};
 ghost use Rattle.layers.specs.Delay.{delay_means};
 ghost use Rattle.memories.specs.Ram.{ram_means};
 ghost use Rattle.layers.specs.Split.{split_means};
-ghost use Rattle.runjob.specs.Pile.{job_pile};
+ghost use Rattle.pile.specs.Job.{job_pile};
 
 use layers::delay::Delay;
 use layers::split::Split;

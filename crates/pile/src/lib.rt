@@ -1,0 +1,5 @@
+//! The pile that jobs run on.
+
+#![tactic(auto)]
+
+pub mod job;
