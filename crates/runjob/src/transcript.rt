@@ -42,7 +42,7 @@ impl fmt::Display for End {
     }
 }
 
-fn perform<B: Bus>(rt: &HostRuntime, bus: &mut B, step: Step) -> anyhow::Result<()> {
+fn perform<B: Bus>(rt: &impl Print, bus: &mut B, step: Step) -> anyhow::Result<()> {
     match step {
         Step::Ask(request) => {
             let settled = settle(bus, request);
@@ -56,7 +56,7 @@ fn perform<B: Bus>(rt: &HostRuntime, bus: &mut B, step: Step) -> anyhow::Result<
     Ok(())
 }
 
-pub(crate) fn run(rt: &HostRuntime) -> anyhow::Result<()> {
+pub(crate) fn run(rt: &(impl Print + AllocGlobal)) -> anyhow::Result<()> {
     let heap = rt.alloc();
     let mut low = vec![in heap; 0u8; job::LOW_LENGTH]?;
     let mut high = vec![in heap; 0u8; job::HIGH_LENGTH]?;
