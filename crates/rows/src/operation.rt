@@ -87,11 +87,11 @@ fn result(operation: Operation, x: u32, y: u32) -> u32
         Operation::Sltu => u32::from(x < y),
         Operation::Slt => u32::from(x.cast_signed() < y.cast_signed()),
         Operation::Mul => x.wrapping_mul(y),
-        Operation::Muh => ((x as u64 * y as u64) >> 32) as u32,
+        Operation::Muh => ((u64::from(x) * u64::from(y)) >> 32) as u32,
         Operation::Msl => signed_product_low(x, y),
         Operation::Msh => signed_product_high(x, y),
-        Operation::Duq => if y == 0 { u32::MAX } else { x / y },
-        Operation::Dur => if y == 0 { x } else { x % y },
+        Operation::Duq => x.checked_div(y).unwrap_or(u32::MAX),
+        Operation::Dur => x.checked_rem(y).unwrap_or(x),
         Operation::Dsq => signed_quotient(x, y),
         Operation::Dsr => signed_remainder(x, y),
     }
@@ -107,7 +107,7 @@ fn overflows(operation: Operation, x: u32, y: u32) -> bool
     }
 }
 
-/// RES, signed overflow, and whether RES is zero.
+/// RES, signed overflow, and whether RES is zero: a tuple, which the cycle takes apart at once.
 pub fn operate(operation: Operation, x: u32, y: u32) -> (u32, bool, bool)
     ensures { result ≡ operated operation x y }
 {
