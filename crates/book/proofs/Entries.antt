@@ -38,7 +38,7 @@ bars = row x.C0 y.Ad Sum r.Bar m.If e.Ibe s.Rie 16
 entered_code : (c cr : ℕ) → c < 16 → cause (caused c cr) ≡ c
 entered_code c cr h = omega arith
 
-code_small : (c : Fault) → code c < 16
+pub code_small : (c : Fault) → code c < 16
 code_small f.Adel = omega arith
 code_small f.Ades = omega arith
 code_small f.Ibe = omega arith

@@ -55,5 +55,8 @@ abbrev pub with_ir : ℕ → Regs → Regs
 with_ir v g = record { general = g.general; pc = g.pc; hi = g.hi; lo = g.lo; sr = g.sr; cr = g.cr; epc = g.epc; bar = g.bar; ad = g.ad; ir = v }
 
 -- a write to a general register; register 0 stays
+abbrev pub with_register : ℕ → ℕ → List ℕ → List ℕ
+with_register n v general = cond (n == 0) general (slice_set general n v)
+
 abbrev pub put : ℕ → ℕ → Regs → Regs
-put n v g = with_general (cond (n == 0) g.general (slice_set g.general n v)) g
+put n v g = with_general (with_register n v g.general) g
