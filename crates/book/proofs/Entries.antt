@@ -11,7 +11,6 @@ use Rattle.microprogram.specs.Registers.{Regs, with_bar, with_cr, with_epc, with
 use Rattle.rows.specs.Rows.{row_at, rows}
 use Rattle.microprogram.specs.Word.{cause, caused, entered}
 use Rattle.microprogram.specs.declared.fault.Fault.{Fault}
-use Rattle.microprogram.specs.declared.fault.Fault.TheVariants as f
 use Rattle.microprogram.specs.declared.ledger.Entry.{Entry}
 use Rattle.rows.specs.declared.operation.Operation.TheVariants.{Sum, Dif}
 use Rattle.rows.specs.declared.row.Destination.TheVariants as r
@@ -38,16 +37,8 @@ bars = row x.C0 y.Ad Sum r.Bar m.If e.Ibe s.Rie 16
 entered_code : (c cr : ℕ) → c < 16 → cause (caused c cr) ≡ c
 entered_code c cr h = omega arith
 
-code_small : (c : Fault) → code c < 16
-code_small f.Adel = omega arith
-code_small f.Ades = omega arith
-code_small f.Ibe = omega arith
-code_small f.Dbe = omega arith
-code_small f.Sys = omega arith
-code_small f.Brk = omega arith
-code_small f.Ri = omega arith
-code_small f.Cpu = omega arith
-code_small f.Ovf = omega arith
+pub code_small : (c : Fault) → code c < 16
+code_small c = grind arith
 
 -- a world at some registers and a ledger
 abbrev spot : Regs → List Entry → (ℕ → ℕ) → ℕ → ℕ → ℕ → World

@@ -8,8 +8,10 @@ use Rattle.std.proofs.lemmas.Nat.{and_le_l, div_below, mul-lt, or_lt, shr_le, xo
 use Rattle.book.specs.Book.{Book, Event, Made, Refusals, address, branches, did, done, enters, fetches, from_system, goes_to, linked, loads, made, met, raised_byte, raised_half, risen, stores, to_sr, to_system, widened}
 use Rattle.book.specs.Instruction.{Instruction, decoded, under}
 use Rattle.book.specs.Path.{Begins, Fit, StepsFit, Words}
+use Rattle.book.proofs.Entries.{code_small}
 use Rattle.book.proofs.Jumps.{joined_small, put_small}
 use Rattle.book.proofs.Straight.{extended_small}
+use Rattle.book.proofs.System.{causes_small}
 use Rattle.book.proofs.Walk.{below}
 use Rattle.rows.proofs.Integers.{residue_below}
 use Rattle.microprogram.specs.Cycle.{misplaced}
@@ -175,9 +177,6 @@ under_fit : (n : ℕ) (bar sr cr epc other : Made) → Good bar → Good sr → 
 under_fit n bar sr cr epc other is_bar is_sr is_cr is_epc is_other =
     either bar _ (eqb n 8) is_bar (either sr _ (eqb n 12) is_sr (either cr _ (eqb n 13) is_cr (either epc other (eqb n 14) is_epc is_other)))
 
-causes_small : (lines cr : ℕ) → cr < 2 ^ 32 → causes lines cr < 2 ^ 32
-causes_small lines cr h = omega arith
-
 from_fit : (b : Book) (g : Regs) (n : ℕ) → Words g → ((x : ℕ) → b.bytes x < 256) → Good (from_system b g n)
 from_fit b g n h k =
     under_fit n _ _ _ _ _
@@ -237,17 +236,6 @@ done_fit r b (Instruction.move_to_system n) g h k = pick Good (user g.sr) (met_f
 done_fit r b Instruction.return_from_exception g h k = pick Good (user g.sr) (met_fit b f.Cpu g h k) (did_fit b _ (with_sr_lem g _ (omega (arith, h.sr)) h) k)
 done_fit r b Instruction.unassigned_opcode g h k = met_fit b f.Ri g h k
 done_fit r b Instruction.unassigned_function g h k = met_fit b f.Ri g h k
-
-code_small : (c : Fault) → code c < 16
-code_small f.Adel = omega arith
-code_small f.Ades = omega arith
-code_small f.Ibe = omega arith
-code_small f.Dbe = omega arith
-code_small f.Sys = omega arith
-code_small f.Brk = omega arith
-code_small f.Ri = omega arith
-code_small f.Cpu = omega arith
-code_small f.Ovf = omega arith
 
 enters_fit : (b : Book) (c epc : ℕ) → c < 16 → epc < 2 ^ 32 → Fit b → Good (enters b c epc)
 enters_fit b c epc few small fit =

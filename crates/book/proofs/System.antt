@@ -27,7 +27,7 @@ illegal = row x.C0 y.C0 Sum r.Nop m.Nop e.Ri s.Next 15
 abbrev pub copro : Row
 copro = row x.C0 y.C0 Sum r.Nop m.Nop e.Nop s.Copro 128
 
-causes_small : (lines cr : ℕ) → cr < 2 ^ 32 → causes lines cr < 2 ^ 32
+pub causes_small : (lines cr : ℕ) → cr < 2 ^ 32 → causes lines cr < 2 ^ 32
 causes_small lines cr h = omega arith
 
 -- a table has under a number what it has without an entry for another

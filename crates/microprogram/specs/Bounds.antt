@@ -30,11 +30,7 @@ successors s.Sinul amic = spread (amic / 4 * 4) 1 4
 -- how many accesses a row makes
 abbrev pub accesses : Transfer → ℕ
 accesses m.Nop = 0
-accesses m.If = 1
-accesses m.Ww = 1
-accesses m.Wh = 1
-accesses m.Wb = 1
-accesses m.Lw = 1
+accesses _ = 1
 
 abbrev pub all : (ℕ → Bool) → List ℕ → Bool
 all p [] = true

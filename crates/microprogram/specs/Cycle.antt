@@ -2,7 +2,7 @@
 use Rattle.std.specs.Prelude.{ℕ, ◌+◌, ◌*◌, ◌/◌, ◌%◌, ◌^◌, Bool, true, false, cond, not, ◌&&◌, ◌||◌, List, replicate, is_some, Some, None, Option, ◌==◌, bit_and}
 use Rattle.bus.specs.declared.request.Action.TheVariants as action
 use Rattle.bus.specs.declared.request.Answer.{Answer}
-use Rattle.bus.specs.declared.request.Answer.TheVariants.{Wait, BusError, Done}
+use Rattle.bus.specs.declared.request.Answer.TheVariants.{BusError, Done}
 use Rattle.bus.specs.declared.request.Request.{Request}
 use Rattle.bus.specs.declared.request.Width.TheVariants.{Word, Half, Byte}
 use Rattle.microprogram.specs.Fault.{code_of}
@@ -83,10 +83,8 @@ abbrev pub misplaced : ℕ → ℕ → ℕ → Bool
 misplaced size sr res = not (res % size == 0) || barred sr res
 
 abbrev pub refused : Option Answer → Bool
-refused None = false
-refused (Some Wait) = false
 refused (Some BusError) = true
-refused (Some (Done w)) = false
+refused _ = false
 
 abbrev pub when : Bool → Fault → Option Fault
 when b c = cond b (Some c) None
@@ -117,21 +115,7 @@ raised None new = new
 
 abbrev pub clears : Detection → Bool
 clears e.Clr = true
-clears e.Nop = false
-clears e.Ri = false
-clears e.Ovf = false
-clears e.Cpu = false
-clears e.Sys = false
-clears e.Brk = false
-clears e.Ww = false
-clears e.Wh = false
-clears e.Wb = false
-clears e.Lw = false
-clears e.Lh = false
-clears e.Lb = false
-clears e.If = false
-clears e.Ibe = false
-clears e.Dbe = false
+clears _ = false
 
 -- the flag afterwards
 abbrev pub flagged : Detection → Option Fault → Option Fault → Option Fault
@@ -140,15 +124,9 @@ flagged d before new = cond (clears d) None (elim before [ Some c ↦ Some c | N
 -- bus errors do not stop the cycle that meets them
 abbrev pub stopping : Option Fault → Bool
 stopping None = false
-stopping (Some f.Adel) = true
-stopping (Some f.Ades) = true
 stopping (Some f.Ibe) = false
 stopping (Some f.Dbe) = false
-stopping (Some f.Sys) = true
-stopping (Some f.Brk) = true
-stopping (Some f.Ri) = true
-stopping (Some f.Cpu) = true
-stopping (Some f.Ovf) = true
+stopping (Some _) = true
 
 -- whether AD, and whether a register that software sees, may be written: a row that clears is stopped by nothing
 abbrev pub opens_ad : Detection → Option Fault → Bool
@@ -177,43 +155,21 @@ written r.Rfe flag res g = with_sr (restored g.sr) g
 -- whether the destination may be written: AD is stopped by less than the registers that software sees
 abbrev pub allowed : Destination → Detection → Option Fault → Option Fault → Bool
 allowed r.Ad d before new = opens_ad d before
-allowed r.Nop d before new = opens d before new
-allowed r.Pc d before new = opens d before new
-allowed r.Bar d before new = opens d before new
-allowed r.Lo d before new = opens d before new
-allowed r.Hi d before new = opens d before new
-allowed r.Epc d before new = opens d before new
-allowed r.Cr d before new = opens d before new
-allowed r.Sr d before new = opens d before new
-allowed r.Rt d before new = opens d before new
-allowed r.Rd d before new = opens d before new
-allowed r.R31 d before new = opens d before new
-allowed r.Erq d before new = opens d before new
-allowed r.Rfe d before new = opens d before new
+allowed _ d before new = opens d before new
 
 -- the word that a finished access brings
 abbrev pub brought : Option Answer → ℕ → ℕ
-brought None old = old
-brought (Some Wait) old = old
-brought (Some BusError) old = old
 brought (Some (Done w)) old = w
+brought _ old = old
 
 -- IR and DT after the access
 abbrev pub fetched : Transfer → Option Answer → ℕ → ℕ
 fetched m.If a old = brought a old
-fetched m.Nop a old = old
-fetched m.Ww a old = old
-fetched m.Wh a old = old
-fetched m.Wb a old = old
-fetched m.Lw a old = old
+fetched _ a old = old
 
 abbrev pub loaded : Transfer → Option Answer → ℕ → ℕ
 loaded m.Lw a old = brought a old
-loaded m.Nop a old = old
-loaded m.If a old = old
-loaded m.Ww a old = old
-loaded m.Wh a old = old
-loaded m.Wb a old = old
+loaded _ a old = old
 
 -- an interrupt is let in: SR bit 0, and some SR bit 10 + n with line n up
 abbrev pub interrupting : ℕ → ℕ → Bool
@@ -242,48 +198,12 @@ following s.Sinul amic g res zero lines flag = amic / 4 * 4 + one_if (bit 31 res
 -- a path ends with a row of this sequencing
 abbrev pub ends : Sequencing → Bool
 ends s.Rie = true
-ends s.Next = false
-ends s.Decod = false
-ends s.Spec = false
-ends s.Movc0 = false
-ends s.Copro = false
-ends s.Bcond = false
-ends s.Ad10 = false
-ends s.Ad1 = false
-ends s.Unsi = false
-ends s.Nul = false
-ends s.Sinul = false
+ends _ = false
 
 -- the rows epc1 and epc2 save PC: they write EPC from it
 abbrev pub saves : Destination → OperandX → Bool
 saves r.Epc x.Pc = true
-saves r.Epc x.Rs = false
-saves r.Epc x.Rt = false
-saves r.Epc x.Ad = false
-saves r.Epc x.Hi = false
-saves r.Epc x.Lo = false
-saves r.Epc x.Epc = false
-saves r.Epc x.Bar = false
-saves r.Epc x.Sr = false
-saves r.Epc x.Cr = false
-saves r.Epc x.Dt = false
-saves r.Epc x.Pc4 = false
-saves r.Epc x.C0 = false
-saves r.Epc x.Cz = false
-saves r.Epc x.Ch = false
-saves r.Nop o = false
-saves r.Pc o = false
-saves r.Ad o = false
-saves r.Bar o = false
-saves r.Lo o = false
-saves r.Hi o = false
-saves r.Cr o = false
-saves r.Sr o = false
-saves r.Rt o = false
-saves r.Rd o = false
-saves r.R31 o = false
-saves r.Erq o = false
-saves r.Rfe o = false
+saves _ _ = false
 
 -- the processor without its memory: registers, flag, row, the lines at the last boundary, ledger
 pub record State : Type 0 where

@@ -25,35 +25,38 @@ reg g n = slice_index g.general n
 
 -- the registers with one of them changed
 abbrev pub with_general : List ℕ → Regs → Regs
-with_general v g = record { general = v; pc = g.pc; hi = g.hi; lo = g.lo; sr = g.sr; cr = g.cr; epc = g.epc; bar = g.bar; ad = g.ad; ir = g.ir }
+with_general v g = record g { general = v }
 
 abbrev pub with_pc : ℕ → Regs → Regs
-with_pc v g = record { general = g.general; pc = v; hi = g.hi; lo = g.lo; sr = g.sr; cr = g.cr; epc = g.epc; bar = g.bar; ad = g.ad; ir = g.ir }
+with_pc v g = record g { pc = v }
 
 abbrev pub with_hi : ℕ → Regs → Regs
-with_hi v g = record { general = g.general; pc = g.pc; hi = v; lo = g.lo; sr = g.sr; cr = g.cr; epc = g.epc; bar = g.bar; ad = g.ad; ir = g.ir }
+with_hi v g = record g { hi = v }
 
 abbrev pub with_lo : ℕ → Regs → Regs
-with_lo v g = record { general = g.general; pc = g.pc; hi = g.hi; lo = v; sr = g.sr; cr = g.cr; epc = g.epc; bar = g.bar; ad = g.ad; ir = g.ir }
+with_lo v g = record g { lo = v }
 
 abbrev pub with_sr : ℕ → Regs → Regs
-with_sr v g = record { general = g.general; pc = g.pc; hi = g.hi; lo = g.lo; sr = v; cr = g.cr; epc = g.epc; bar = g.bar; ad = g.ad; ir = g.ir }
+with_sr v g = record g { sr = v }
 
 abbrev pub with_cr : ℕ → Regs → Regs
-with_cr v g = record { general = g.general; pc = g.pc; hi = g.hi; lo = g.lo; sr = g.sr; cr = v; epc = g.epc; bar = g.bar; ad = g.ad; ir = g.ir }
+with_cr v g = record g { cr = v }
 
 abbrev pub with_epc : ℕ → Regs → Regs
-with_epc v g = record { general = g.general; pc = g.pc; hi = g.hi; lo = g.lo; sr = g.sr; cr = g.cr; epc = v; bar = g.bar; ad = g.ad; ir = g.ir }
+with_epc v g = record g { epc = v }
 
 abbrev pub with_bar : ℕ → Regs → Regs
-with_bar v g = record { general = g.general; pc = g.pc; hi = g.hi; lo = g.lo; sr = g.sr; cr = g.cr; epc = g.epc; bar = v; ad = g.ad; ir = g.ir }
+with_bar v g = record g { bar = v }
 
 abbrev pub with_ad : ℕ → Regs → Regs
-with_ad v g = record { general = g.general; pc = g.pc; hi = g.hi; lo = g.lo; sr = g.sr; cr = g.cr; epc = g.epc; bar = g.bar; ad = v; ir = g.ir }
+with_ad v g = record g { ad = v }
 
 abbrev pub with_ir : ℕ → Regs → Regs
-with_ir v g = record { general = g.general; pc = g.pc; hi = g.hi; lo = g.lo; sr = g.sr; cr = g.cr; epc = g.epc; bar = g.bar; ad = g.ad; ir = v }
+with_ir v g = record g { ir = v }
 
 -- a write to a general register; register 0 stays
+abbrev pub with_register : ℕ → ℕ → List ℕ → List ℕ
+with_register n v general = cond (n == 0) general (slice_set general n v)
+
 abbrev pub put : ℕ → ℕ → Regs → Regs
-put n v g = with_general (cond (n == 0) g.general (slice_set g.general n v)) g
+put n v g = with_general (with_register n v g.general) g

@@ -1,5 +1,7 @@
 -- Bits and fields of words. Assumes nothing.
 use Rattle.std.specs.Prelude.{ℕ, ◌+◌, ◌-◌, ◌*◌, ◌/◌, ◌%◌, ◌^◌, Bool, cond, ◌==◌, nat_lt}
+use Rattle.microprogram.specs.declared.operands.Field.{Field}
+use Rattle.microprogram.specs.declared.operands.Field.TheVariants.{Rs, Rt, Rd}
 
 -- whether a bit is set
 abbrev pub bit : ℕ → ℕ → Bool
@@ -9,21 +11,31 @@ bit n w = w / 2 ^ n % 2 == 1
 abbrev pub opcode : ℕ → ℕ
 opcode ir = ir / 2 ^ 26 % 64
 
+-- five of its bits, from bit n up
+abbrev pub field : ℕ → ℕ → ℕ
+field n ir = ir / 2 ^ n % 32
+
 abbrev pub rs : ℕ → ℕ
-rs ir = ir / 2 ^ 21 % 32
+rs ir = field 21 ir
 
 abbrev pub rt : ℕ → ℕ
-rt ir = ir / 2 ^ 16 % 32
+rt ir = field 16 ir
 
 abbrev pub rd : ℕ → ℕ
-rd ir = ir / 2 ^ 11 % 32
+rd ir = field 11 ir
+
+-- the general register that one of these three names
+abbrev pub named : Field → ℕ → ℕ
+named Rs ir = rs ir
+named Rt ir = rt ir
+named Rd ir = rd ir
 
 -- the register number of a move to or from the system registers has four bits
 abbrev pub system : ℕ → ℕ
 system ir = ir / 2 ^ 11 % 16
 
 abbrev pub shift : ℕ → ℕ
-shift ir = ir / 2 ^ 6 % 32
+shift ir = field 6 ir
 
 abbrev pub function : ℕ → ℕ
 function ir = ir % 64

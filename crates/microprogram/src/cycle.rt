@@ -1,28 +1,19 @@
 //! One cycle, as functions of values.
 
-ghost use Rattle.std.specs.Prelude.{◌≡◌, ◌<◌, Bool, replicate};
-ghost use Rattle.microprogram.specs.Cycle.{access, advanced, fetched, loaded, powered, requested, saves, seen, worked, written};
-ghost use Rattle.microprogram.specs.Fault.{code_of};
-ghost use Rattle.microprogram.specs.Registers.{held, put, with_ir};
+ghost use Rattle.std.specs.Prelude.{◌≡◌, ◌<◌};
+ghost use Rattle.microprogram.specs.Cycle.{access, advanced, brought, powered, requested, saves, seen, worked, written};
+ghost use Rattle.microprogram.specs.Registers.{held, with_register};
 
 use super::chip::Chip;
 use super::fault::Fault;
+use super::faults::{Check, Evidence};
 use super::ledger::Ledger;
-use super::operands::{rd, rt};
+use super::operands::Field;
 use super::registers::Registers;
-use super::{faults, sequencing};
-use bus::request::{Action, Answer, Request, Width};
+use super::sequencing;
+use bus::request::{Answer, Request, Width};
 use rows::operation::operate;
 use rows::row::{Destination, OperandX, Row, Transfer};
-
-fn code_of(flag: Option<Fault>) -> u32
-    ensures { result ≡ code_of flag }
-{
-    match flag {
-        Some(fault) => fault.code(),
-        None => 0,
-    }
-}
 
 /// The rows epc1 and epc2 save PC: they write EPC from it.
 fn saves(destination: Destination, x: OperandX) -> bool
@@ -31,34 +22,27 @@ fn saves(destination: Destination, x: OperandX) -> bool
     matches!((destination, x), (Destination::Epc, OperandX::Pc))
 }
 
+/// The word that a finished access brings, or else the old one.
+fn brought(answer: Option<Answer>, old: u32) -> u32
+    ensures { result ≡ brought answer old }
+{
+    match answer {
+        Some(Answer::Done(word)) => word,
+        Some(Answer::Wait | Answer::BusError) | None => old,
+    }
+}
+
+/// Writes a general register; register 0 stays.
+fn put(general: &mut [u32; 32], n: usize, value: u32)
+    requires { n < 32 }
+    ensures { general.new ≡ with_register n value general.old }
+{
+    if n != 0 {
+        general[n] = value;
+    }
+}
+
 impl Registers {
-    /// Writes a general register; register 0 stays.
-    fn put(&mut self, n: usize, value: u32)
-        requires { n < 32 }
-        ensures regs { held self.new ≡ put n value (held self.old) }
-        ensures dt { self.new.dt ≡ self.old.dt }
-        ensures flag { self.new.flag ≡ self.old.flag }
-    {
-        if n != 0 {
-            self.general[n] = value;
-        }
-    }
-
-    /// Takes the word that a finished access brings: a fetch's goes to IR, a load's to DT.
-    fn take(&mut self, transfer: Transfer, answer: Option<Answer>)
-        ensures regs { held self.new ≡ with_ir (fetched transfer answer self.old.ir) (held self.old) }
-        ensures dt { self.new.dt ≡ loaded transfer answer self.old.dt }
-        ensures flag { self.new.flag ≡ self.old.flag }
-    {
-        if let Some(Answer::Done(word)) = answer {
-            match transfer {
-                Transfer::If => self.ir = word,
-                Transfer::Lw => self.dt = word,
-                Transfer::Nop | Transfer::Ww | Transfer::Wh | Transfer::Wb => {}
-            }
-        }
-    }
-
     /// Writes the result to its destination.
     fn write(&mut self, destination: Destination, res: u32)
         ensures regs { held self.new ≡ written destination self.old.flag res (held self.old) }
@@ -75,11 +59,11 @@ impl Registers {
             Destination::Epc => self.epc = res,
             Destination::Cr => self.cr = res,
             Destination::Sr => self.sr = res,
-            Destination::Rt => self.put(rt(self.ir), res),
-            Destination::Rd => self.put(rd(self.ir), res),
-            Destination::R31 => self.put(31, res),
+            Destination::Rt => put(&mut self.general, Field::Rt.register(self.ir), res),
+            Destination::Rd => put(&mut self.general, Field::Rd.register(self.ir), res),
+            Destination::R31 => put(&mut self.general, 31, res),
             Destination::Erq => {
-                self.cr = self.cr / 64 * 64 + code_of(self.flag) * 4;
+                self.cr = self.cr / 64 * 64 + self.flag.map_or(0, Fault::code) * 4;
                 self.sr = self.sr / 64 * 64 + self.sr.wrapping_mul(4) % 64;
             }
             Destination::Rfe => self.sr = self.sr / 16 * 16 + self.sr / 4 % 16,
@@ -92,6 +76,7 @@ impl Chip {
     pub fn new() -> Chip
         ensures { seen result ≡ powered }
     {
+        // written out: a struct that keeps a fact, as register 0 is zero, derives no `Default`
         let registers = Registers {
             general: [0; 32],
             pc: 0,
@@ -110,7 +95,7 @@ impl Chip {
             registers,
             row: 0,
             lines: 0,
-            ledger: Ledger::new(),
+            ledger: Ledger::default(),
         }
     }
 
@@ -130,15 +115,15 @@ impl Chip {
         if self.registers.flag.is_some() {
             return None;
         }
-        let (address, action) = match transfer {
-            Transfer::Nop => return None,
-            Transfer::If => (self.registers.pc, Action::Read),
-            Transfer::Ww => (self.registers.ad, Action::Write(Width::Word, res)),
-            Transfer::Wh => (self.registers.ad, Action::Write(Width::Half, res)),
-            Transfer::Wb => (self.registers.ad, Action::Write(Width::Byte, res)),
-            Transfer::Lw => (self.registers.ad, Action::Read),
-        };
-        Some(Request { address, action })
+        let (pc, ad) = (self.registers.pc, self.registers.ad);
+        match transfer {
+            Transfer::Nop => None,
+            Transfer::If => Some(Request::read(pc)),
+            Transfer::Ww => Some(Request::write(Width::Word, ad, res)),
+            Transfer::Wh => Some(Request::write(Width::Half, ad, res)),
+            Transfer::Wb => Some(Request::write(Width::Byte, ad, res)),
+            Transfer::Lw => Some(Request::read(ad)),
+        }
     }
 
     /// The end of a cycle that is not frozen: what its row does with the work and with the answer to its request.
@@ -146,19 +131,32 @@ impl Chip {
         ensures { seen self.new ≡ advanced row lines work answer (seen self.old) }
     {
         let (res, overflow, zero) = work;
-        let before = self.registers.flag;
-        let new = faults::found(row.detection, self.registers.sr, res, overflow, answer);
-        let flag = faults::flagged(row.detection, before, new);
+        let evidence = Evidence {
+            sr: self.registers.sr,
+            res,
+            overflow,
+            answer,
+        };
+        let check = Check {
+            detection: row.detection,
+            before: self.registers.flag,
+            new: evidence.found_by(row.detection),
+        };
+        let flag = check.flag();
         self.row = self
             .registers
-            .following(row.sequencing, row.amic, res, zero, lines, flag.is_some());
-        if saves(row.destination, row.x) && faults::opens(row.detection, before, new) {
+            .following(&row, res, zero, lines, flag.is_some());
+        if saves(row.destination, row.x) && check.opens() {
             self.ledger.note(self.registers.cr / 4, res);
         }
-        if faults::allowed(row.destination, row.detection, before, new) {
+        if check.allows(row.destination) {
             self.registers.write(row.destination, res);
         }
-        self.registers.take(row.transfer, answer);
+        match row.transfer {
+            Transfer::If => self.registers.ir = brought(answer, self.registers.ir),
+            Transfer::Lw => self.registers.dt = brought(answer, self.registers.dt),
+            Transfer::Nop | Transfer::Ww | Transfer::Wh | Transfer::Wb => {}
+        }
         self.registers.flag = flag;
         if sequencing::ends(row.sequencing) {
             self.lines = lines;

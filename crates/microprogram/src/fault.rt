@@ -3,40 +3,30 @@
 ghost use Rattle.std.specs.Prelude.{◌≡◌};
 ghost use Rattle.microprogram.specs.Fault.{code};
 
+/// Each fault has the code that CR and the ledger know it by; an interrupt has code 0.
 #[derive(Clone, Copy)]
 pub enum Fault {
     /// A bad address of a load, of a fetch or of a jump.
-    Adel,
+    Adel = 4,
     /// A bad address of a store.
-    Ades,
+    Ades = 5,
     /// A bus error of a fetch.
-    Ibe,
+    Ibe = 6,
     /// A bus error of a load or a store.
-    Dbe,
-    Sys,
-    Brk,
+    Dbe = 7,
+    Sys = 8,
+    Brk = 9,
     /// An illegal code.
-    Ri,
+    Ri = 10,
     /// A privileged instruction in user mode.
-    Cpu,
-    Ovf,
+    Cpu = 11,
+    Ovf = 12,
 }
 
 impl Fault {
-    /// The code that CR and the ledger know the fault by; an interrupt has code 0.
     pub(crate) fn code(self) -> u32
         ensures { result ≡ code self }
     {
-        match self {
-            Fault::Adel => 4,
-            Fault::Ades => 5,
-            Fault::Ibe => 6,
-            Fault::Dbe => 7,
-            Fault::Sys => 8,
-            Fault::Brk => 9,
-            Fault::Ri => 10,
-            Fault::Cpu => 11,
-            Fault::Ovf => 12,
-        }
+        self as u32
     }
 }

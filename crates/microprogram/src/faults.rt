@@ -1,126 +1,121 @@
 //! Which fault a row finds, and what a fault stops.
 
-ghost use Rattle.std.specs.Prelude.{◌≡◌, is_some};
-ghost use Rattle.microprogram.specs.Cycle.{allowed, barred, clears, flagged, found, misplaced, opens, opens_ad, raised, refused, stopping, when};
+ghost use Rattle.std.specs.Prelude.{◌≡◌};
+ghost use Rattle.microprogram.specs.Cycle.{allowed, barred, clears, flagged, found, misplaced, opens, refused, stopping};
+ghost use Rattle.microprogram.specs.Word.{user};
 
 use super::fault::Fault;
 use bus::request::Answer;
 use rows::row::{Destination, Detection};
 
-fn when(test: bool, fault: Fault) -> Option<Fault>
-    ensures { result ≡ when test fault }
-{
-    if test { Some(fault) } else { None }
+/// What a fault is found by: SR, the result, its overflow, and the answer to the row's request.
+#[derive(Clone, Copy)]
+pub(crate) struct Evidence {
+    pub sr: u32,
+    pub res: u32,
+    pub overflow: bool,
+    pub answer: Option<Answer>,
 }
 
-/// User mode, SR bit 1, may not use an address with bit 31.
-fn barred(sr: u32, address: u32) -> bool
-    ensures { result ≡ barred sr address }
-{
-    sr / 2 % 2 == 1 && address / 0x8000_0000 % 2 == 1
-}
+impl Evidence {
+    /// SR bit 1.
+    fn in_user_mode(self) -> bool
+        ensures { result ≡ user self.sr }
+    {
+        self.sr / 2 % 2 == 1
+    }
 
-fn misplaced_word(sr: u32, address: u32) -> bool
-    ensures { result ≡ misplaced 4 sr address }
-{
-    address % 4 != 0 || barred(sr, address)
-}
+    /// User mode may not use an address with bit 31.
+    fn is_barred(self) -> bool
+        ensures { result ≡ barred self.sr self.res }
+    {
+        self.in_user_mode() && self.res / 0x8000_0000 % 2 == 1
+    }
 
-fn misplaced_half(sr: u32, address: u32) -> bool
-    ensures { result ≡ misplaced 2 sr address }
-{
-    address % 2 != 0 || barred(sr, address)
-}
+    /// Whether the result is no address of an access of so many bytes.
+    fn is_misplaced(self, size: u32) -> bool
+        ensures { result ≡ misplaced size self.sr self.res }
+    {
+        !self.res.is_multiple_of(size) || self.is_barred()
+    }
 
-fn refused(answer: Option<Answer>) -> bool
-    ensures { result ≡ refused answer }
-{
-    match answer {
-        Some(Answer::BusError) => true,
-        Some(Answer::Wait) | Some(Answer::Done(_)) | None => false,
+    fn is_refused(self) -> bool
+        ensures { result ≡ refused self.answer }
+    {
+        self.answer == Some(Answer::BusError)
+    }
+
+    /// The fault that a row with this detection finds.
+    pub(crate) fn found_by(self, detection: Detection) -> Option<Fault>
+        ensures { result ≡ found detection self.sr self.res self.overflow self.answer }
+    {
+        match detection {
+            Detection::Nop | Detection::Clr => None,
+            Detection::Ri => Some(Fault::Ri),
+            Detection::Ovf => self.overflow.then_some(Fault::Ovf),
+            Detection::Cpu => self.in_user_mode().then_some(Fault::Cpu),
+            Detection::Sys => Some(Fault::Sys),
+            Detection::Brk => Some(Fault::Brk),
+            Detection::Ww => self.is_misplaced(4).then_some(Fault::Ades),
+            Detection::Wh => self.is_misplaced(2).then_some(Fault::Ades),
+            Detection::Wb => self.is_barred().then_some(Fault::Ades),
+            Detection::Lw | Detection::If => self.is_misplaced(4).then_some(Fault::Adel),
+            Detection::Lh => self.is_misplaced(2).then_some(Fault::Adel),
+            Detection::Lb => self.is_barred().then_some(Fault::Adel),
+            Detection::Ibe => self.is_refused().then_some(Fault::Ibe),
+            Detection::Dbe => self.is_refused().then_some(Fault::Dbe),
+        }
     }
 }
 
-/// The fault that a row finds.
-pub(crate) fn found(
-    detection: Detection,
-    sr: u32,
-    res: u32,
-    overflow: bool,
-    answer: Option<Answer>,
-) -> Option<Fault>
-    ensures { result ≡ found detection sr res overflow answer }
-{
-    match detection {
-        Detection::Nop | Detection::Clr => None,
-        Detection::Ri => Some(Fault::Ri),
-        Detection::Ovf => when(overflow, Fault::Ovf),
-        Detection::Cpu => when(sr / 2 % 2 == 1, Fault::Cpu),
-        Detection::Sys => Some(Fault::Sys),
-        Detection::Brk => Some(Fault::Brk),
-        Detection::Ww => when(misplaced_word(sr, res), Fault::Ades),
-        Detection::Wh => when(misplaced_half(sr, res), Fault::Ades),
-        Detection::Wb => when(barred(sr, res), Fault::Ades),
-        Detection::Lw | Detection::If => when(misplaced_word(sr, res), Fault::Adel),
-        Detection::Lh => when(misplaced_half(sr, res), Fault::Adel),
-        Detection::Lb => when(barred(sr, res), Fault::Adel),
-        Detection::Ibe => when(refused(answer), Fault::Ibe),
-        Detection::Dbe => when(refused(answer), Fault::Dbe),
+/// What a row looks for, the flag that was up before it, and the fault that it finds.
+#[derive(Clone, Copy)]
+pub(crate) struct Check {
+    pub detection: Detection,
+    pub before: Option<Fault>,
+    pub new: Option<Fault>,
+}
+
+impl Check {
+    /// Whether the row clears the flag; such a row is stopped by nothing.
+    fn clears(self) -> bool
+        ensures { result ≡ clears self.detection }
+    {
+        matches!(self.detection, Detection::Clr)
     }
-}
 
-/// Whether a row clears the flag; such a row is stopped by nothing.
-pub(crate) fn clears(detection: Detection) -> bool
-    ensures { result ≡ clears detection }
-{
-    matches!(detection, Detection::Clr)
-}
-
-/// The flag after a row that found `new`; one that is up stays, and no second one is raised.
-pub(crate) fn flagged(
-    detection: Detection,
-    before: Option<Fault>,
-    new: Option<Fault>,
-) -> Option<Fault>
-    ensures { result ≡ flagged detection before new }
-{
-    if clears(detection) {
-        return None;
+    /// The flag after the row; one that is up stays, and no second one is raised.
+    pub(crate) fn flag(self) -> Option<Fault>
+        ensures { result ≡ flagged self.detection self.before self.new }
+    {
+        if self.clears() {
+            None
+        } else {
+            self.before.or(self.new)
+        }
     }
-    match before {
-        Some(fault) => Some(fault),
-        None => new,
+
+    /// Whether the fault that is found stops the cycle; bus errors do not stop the one that meets them.
+    fn stops(self) -> bool
+        ensures { result ≡ stopping self.new }
+    {
+        !matches!(self.new, None | Some(Fault::Ibe | Fault::Dbe))
     }
-}
 
-/// Bus errors do not stop the cycle that meets them.
-fn stopping(new: Option<Fault>) -> bool
-    ensures { result ≡ stopping new }
-{
-    match new {
-        None | Some(Fault::Ibe) | Some(Fault::Dbe) => false,
-        Some(_) => true,
+    /// Whether the registers that software sees may be written.
+    pub(crate) fn opens(self) -> bool
+        ensures { result ≡ opens self.detection self.before self.new }
+    {
+        self.clears() || self.before.is_none() && !self.stops()
     }
-}
 
-/// Whether the registers that software sees may be written.
-pub(crate) fn opens(detection: Detection, before: Option<Fault>, new: Option<Fault>) -> bool
-    ensures { result ≡ opens detection before new }
-{
-    clears(detection) || before.is_none() && !stopping(new)
-}
-
-/// Whether the destination may be written: a fault of this very cycle does not stop AD.
-pub(crate) fn allowed(
-    destination: Destination,
-    detection: Detection,
-    before: Option<Fault>,
-    new: Option<Fault>,
-) -> bool
-    ensures { result ≡ allowed destination detection before new }
-{
-    match destination {
-        Destination::Ad => clears(detection) || before.is_none(),
-        _ => opens(detection, before, new),
+    /// Whether the destination may be written: a fault of this very cycle does not stop AD.
+    pub(crate) fn allows(self, destination: Destination) -> bool
+        ensures { result ≡ allowed destination self.detection self.before self.new }
+    {
+        match destination {
+            Destination::Ad => self.clears() || self.before.is_none(),
+            _ => self.opens(),
+        }
     }
 }

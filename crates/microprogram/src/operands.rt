@@ -3,33 +3,27 @@
 ghost use Rattle.std.specs.Prelude.{◌≡◌, ◌<◌};
 ghost use Rattle.microprogram.specs.Cycle.{operand_x, operand_y};
 ghost use Rattle.microprogram.specs.Registers.{held};
-ghost use Rattle.microprogram.specs.Word.{causes, distance, extended, rd, rs, rt};
+ghost use Rattle.microprogram.specs.Word.{causes, extended, named};
 
 use super::registers::Registers;
 use rows::row::{OperandX, OperandY};
 
-/// The general register that IR bits 25–21 name.
-pub(crate) fn rs(ir: u32) -> usize
-    ensures is { result ≡ rs ir }
-    ensures below { result < 32 }
-{
-    ((ir >> 21) % 32) as usize
+/// The fields of an instruction that name general registers, each by the lowest of its five bits.
+#[derive(Clone, Copy)]
+pub(crate) enum Field {
+    Rs = 21,
+    Rt = 16,
+    Rd = 11,
 }
 
-/// The general register that IR bits 20–16 name.
-pub(crate) fn rt(ir: u32) -> usize
-    ensures is { result ≡ rt ir }
-    ensures below { result < 32 }
-{
-    ((ir >> 16) % 32) as usize
-}
-
-/// The general register that IR bits 15–11 name.
-pub(crate) fn rd(ir: u32) -> usize
-    ensures is { result ≡ rd ir }
-    ensures below { result < 32 }
-{
-    ((ir >> 11) % 32) as usize
+impl Field {
+    /// The number of the register that the field names.
+    pub(crate) fn register(self, ir: u32) -> usize
+        ensures is { result ≡ named self ir }
+        ensures below { result < 32 }
+    {
+        ((ir >> self as u32) % 32) as usize
+    }
 }
 
 /// CR as it is read: bits 15–10 are the lines IT5–IT0 as they stood at the last boundary.
@@ -55,8 +49,8 @@ impl Registers {
         ensures { result ≡ operand_x lines self.now.dt (held self.now) x }
     {
         match x {
-            OperandX::Rs => self.general[rs(self.ir)],
-            OperandX::Rt => self.general[rt(self.ir)],
+            OperandX::Rs => self.general[Field::Rs.register(self.ir)],
+            OperandX::Rt => self.general[Field::Rt.register(self.ir)],
             OperandX::Pc => self.pc,
             OperandX::Ad => self.ad,
             OperandX::Hi => self.hi,

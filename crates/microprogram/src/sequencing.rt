@@ -7,10 +7,10 @@ ghost use Rattle.microprogram.specs.Registers.{held};
 ghost use Rattle.microprogram.specs.Word.{bit};
 
 use super::registers::Registers;
-use rows::row::Sequencing;
+use rows::row::{Row, Sequencing};
 
 /// SR bit 0 and some SR bit 10 + n are set with line n up.
-pub(crate) fn interrupting(sr: u32, lines: u8) -> bool
+fn interrupting(sr: u32, lines: u8) -> bool
     ensures { result ≡ interrupting sr lines }
 {
     sr % 2 == 1 && (sr / 1024 % 64) & u32::from(lines % 64) != 0
@@ -38,20 +38,12 @@ fn chosen(sr: u32, lines: u8, flag: bool) -> u16
 }
 
 impl Registers {
-    /// The address of the row that follows one with this SEQ and AMIC.
-    pub(crate) fn following(
-        &self,
-        sequencing: Sequencing,
-        amic: u16,
-        res: u32,
-        zero: bool,
-        lines: u8,
-        flag: bool,
-    ) -> u16
-        ensures { result ≡ following sequencing amic (held self.now) res zero lines flag }
+    /// The address of the row that follows.
+    pub(crate) fn following(&self, row: &Row, res: u32, zero: bool, lines: u8, flag: bool) -> u16
+        ensures { result ≡ following row.now.sequencing row.now.amic (held self.now) res zero lines flag }
     {
-        let ir = self.ir;
-        match sequencing {
+        let (ir, amic) = (self.ir, row.amic);
+        match row.sequencing {
             Sequencing::Next => amic,
             Sequencing::Decod => 256 + (ir >> 26) as u16 * 4,
             Sequencing::Spec => 512 + (ir % 64) as u16 * 4,

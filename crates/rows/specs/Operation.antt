@@ -74,23 +74,7 @@ result_of Dsr x y = cond (y == 0) x (word (signed x -ℤ int_div (signed x) (sig
 abbrev pub overflow : Operation → ℕ → ℕ → Bool
 overflow Sum x y = not (fits (signed x +ℤ signed y))
 overflow Dif x y = not (fits (signed x -ℤ signed y))
-overflow And x y = false
-overflow Or x y = false
-overflow Xor x y = false
-overflow Nor x y = false
-overflow Sll x y = false
-overflow Srl x y = false
-overflow Sra x y = false
-overflow Sltu x y = false
-overflow Slt x y = false
-overflow Mul x y = false
-overflow Muh x y = false
-overflow Msl x y = false
-overflow Msh x y = false
-overflow Duq x y = false
-overflow Dur x y = false
-overflow Dsq x y = false
-overflow Dsr x y = false
+overflow _ x y = false
 
 -- the three things that an operation gives together: RES, signed overflow, and whether RES is zero
 abbrev pub operated : Operation → ℕ → ℕ → ℕ × Bool × Bool

@@ -71,46 +71,50 @@ fn signed_remainder(x: u32, y: u32) -> u32
         .cast_unsigned()
 }
 
-fn result(operation: Operation, x: u32, y: u32) -> u32
-    ensures { result ≡ result_of operation x y }
-{
-    match operation {
-        Operation::Sum => x.wrapping_add(y),
-        Operation::Dif => x.wrapping_sub(y),
-        Operation::And => x & y,
-        Operation::Or => x | y,
-        Operation::Xor => x ^ y,
-        Operation::Nor => !(x | y),
-        Operation::Sll => x.wrapping_shl(y),
-        Operation::Srl => x.wrapping_shr(y),
-        Operation::Sra => shift_right_signed(x, y),
-        Operation::Sltu => u32::from(x < y),
-        Operation::Slt => u32::from(x.cast_signed() < y.cast_signed()),
-        Operation::Mul => x.wrapping_mul(y),
-        Operation::Muh => ((x as u64 * y as u64) >> 32) as u32,
-        Operation::Msl => signed_product_low(x, y),
-        Operation::Msh => signed_product_high(x, y),
-        Operation::Duq => if y == 0 { u32::MAX } else { x / y },
-        Operation::Dur => if y == 0 { x } else { x % y },
-        Operation::Dsq => signed_quotient(x, y),
-        Operation::Dsr => signed_remainder(x, y),
+impl Operation {
+    /// What it gives for X and Y.
+    fn result(self, x: u32, y: u32) -> u32
+        ensures { result ≡ result_of self x y }
+    {
+        match self {
+            Operation::Sum => x.wrapping_add(y),
+            Operation::Dif => x.wrapping_sub(y),
+            Operation::And => x & y,
+            Operation::Or => x | y,
+            Operation::Xor => x ^ y,
+            Operation::Nor => !(x | y),
+            Operation::Sll => x.wrapping_shl(y),
+            Operation::Srl => x.wrapping_shr(y),
+            Operation::Sra => shift_right_signed(x, y),
+            Operation::Sltu => u32::from(x < y),
+            Operation::Slt => u32::from(x.cast_signed() < y.cast_signed()),
+            Operation::Mul => x.wrapping_mul(y),
+            Operation::Muh => ((u64::from(x) * u64::from(y)) >> 32) as u32,
+            Operation::Msl => signed_product_low(x, y),
+            Operation::Msh => signed_product_high(x, y),
+            Operation::Duq => x.checked_div(y).unwrap_or(u32::MAX),
+            Operation::Dur => x.checked_rem(y).unwrap_or(x),
+            Operation::Dsq => signed_quotient(x, y),
+            Operation::Dsr => signed_remainder(x, y),
+        }
+    }
+
+    /// Signed overflow, which a sum or a difference alone can have.
+    fn overflows(self, x: u32, y: u32) -> bool
+        ensures { result ≡ overflow self x y }
+    {
+        match self {
+            Operation::Sum => x.cast_signed().overflowing_add(y.cast_signed()).1,
+            Operation::Dif => x.cast_signed().overflowing_sub(y.cast_signed()).1,
+            _ => false,
+        }
     }
 }
 
-fn overflows(operation: Operation, x: u32, y: u32) -> bool
-    ensures { result ≡ overflow operation x y }
-{
-    match operation {
-        Operation::Sum => x.cast_signed().overflowing_add(y.cast_signed()).1,
-        Operation::Dif => x.cast_signed().overflowing_sub(y.cast_signed()).1,
-        _ => false,
-    }
-}
-
-/// RES, signed overflow, and whether RES is zero.
+/// RES, signed overflow, and whether RES is zero: a tuple, which the cycle takes apart at once.
 pub fn operate(operation: Operation, x: u32, y: u32) -> (u32, bool, bool)
     ensures { result ≡ operated operation x y }
 {
-    let res = result(operation, x, y);
-    (res, overflows(operation, x, y), res == 0)
+    let res = operation.result(x, y);
+    (res, operation.overflows(x, y), res == 0)
 }

@@ -1205,10 +1205,7 @@ static ROWS: [Fields; 1024] = [
 fn fields(address: u16) -> Fields
     ensures { result ≡ slice_index_or rows address empty }
 {
-    if address >= 1024 {
-        return EMPTY;
-    }
-    ROWS[address as usize]
+    ROWS.get(usize::from(address)).copied().unwrap_or(EMPTY)
 }
 
 /// The row at an address.
