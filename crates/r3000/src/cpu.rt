@@ -42,9 +42,7 @@ impl<B: Bus> Core<B> {
     pub fn clock(&mut self) -> Result<Clocked, Denial>
         ensures { Happens (λ c d. Clocks B.Bus.steps c result d) self.old self.new }
     {
-        if let Some(denial) = self.counts.too_many(1) {
-            return Err(denial);
-        }
+        self.counts.check_cycles(1)?;
         let frozen = cycle(&mut self.chip, self.lines, &mut self.counts, &mut self.pile);
         Ok(Clocked {
             frozen,
@@ -56,9 +54,7 @@ impl<B: Bus> Core<B> {
     pub fn run(&mut self, count: u32) -> Result<Report, Denial>
         ensures { Happens (λ c d. Runs B.Bus.steps Anything count c result d) self.old self.new }
     {
-        if let Some(denial) = self.counts.run_denial(count) {
-            return Err(denial);
-        }
+        self.counts.check_run(count)?;
         let mut chip = self.chip;
         let mut counts = self.counts;
         for _ in 0..count {
