@@ -60,7 +60,7 @@ module _ {S : Type 0} {means : S → Meaning} {steps : S → Request → Answer 
       by false e = Reached.set_lines c n (ltb-false 127 n e) r
 
   -- each call
-  pub calls : (c d : Machine S) (x : Call) (r : Reply) → Reached steps start c → Called means steps Anything c x r d → Called means steps (Promised means steps start) c x r d × Reached steps start d
+  pub calls : (c d : Machine S) (x : Call) (r : Result Reply Denial) → Reached steps start c → Called means steps Anything c x r d → Called means steps (Promised means steps start) c x r d × Reached steps start d
   calls c d call.Clock r reached h = (h, clocks c d h.0 reached h.2)
   calls c d (call.Run n) r reached h =
       let all = runs n c d h.0 reached h.2 in ((h.0, h.1, all.0), all.1)
@@ -71,19 +71,19 @@ module _ {S : Type 0} {means : S → Meaning} {steps : S → Request → Answer 
   calls c d (call.Look a) r reached h = (h, same c d h.1 reached)
 
   -- one call more
-  pub plays_more : (c b d : Machine S) (xs : List Call) (rs : List Reply) (x : Call) (r : Reply) → Played means steps (Promised means steps start) c xs rs b → Reached steps start b → Called means steps Anything b x r d
+  pub plays_more : (c b d : Machine S) (xs : List Call) (rs : List (Result Reply Denial)) (x : Call) (r : Result Reply Denial) → Played means steps (Promised means steps start) c xs rs b → Reached steps start b → Called means steps Anything b x r d
       → Played means steps (Promised means steps start) c (xs ++ x ∷ []) (rs ++ r ∷ []) d × Reached steps start d
   plays_more c b d xs rs x r h reached k = (after xs rs c h, last.1)
     where
       last : Called means steps (Promised means steps start) b x r d × Reached steps start d
       last = calls b d x r reached k
 
-      after : (xs : List Call) (rs : List Reply) (c : Machine S) → Played means steps (Promised means steps start) c xs rs b → Played means steps (Promised means steps start) c (xs ++ x ∷ []) (rs ++ r ∷ []) d
+      after : (xs : List Call) (rs : List (Result Reply Denial)) (c : Machine S) → Played means steps (Promised means steps start) c xs rs b → Played means steps (Promised means steps start) c (xs ++ x ∷ []) (rs ++ r ∷ []) d
       after [] [] c h = (d, subst (λ m. Called means steps (Promised means steps start) m x r d) h last.0, promised d last.1, refl)
       after [] (q ∷ rs) c h = absurd h
       after (y ∷ xs) [] c h = absurd h
       after (y ∷ xs) (q ∷ rs) c h = (h.0, h.1, h.2, after xs rs h.0 h.3)
 
   -- no call yet
-  pub none_played : (rs : List Reply) (c : Machine S) → rs ≡ [] → c ≡ built start → Played means steps (Promised means steps start) (built start) [] rs c × Reached steps start c
+  pub none_played : (rs : List (Result Reply Denial)) (c : Machine S) → rs ≡ [] → c ≡ built start → Played means steps (Promised means steps start) (built start) [] rs c × Reached steps start c
   none_played rs c e h = (subst (λ rs. Played means steps (Promised means steps start) (built start) [] rs c) (sym e) h, same (built start) c h Reached.power_up)
