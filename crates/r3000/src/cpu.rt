@@ -83,16 +83,18 @@ impl<B: Bus> Core<B> {
     {
         let registers = self.chip.registers;
         let mut all = [0; 42];
-        all[32] = registers.pc;
-        all[33] = registers.hi;
-        all[34] = registers.lo;
-        all[35] = registers.sr;
-        all[36] = read_cr(self.chip.lines, registers.cr);
-        all[37] = registers.epc;
-        all[38] = registers.bar;
-        all[39] = registers.ad;
-        all[40] = registers.ir;
-        all[41] = registers.dt;
+        all[32..].copy_from_slice(&[
+            registers.pc,
+            registers.hi,
+            registers.lo,
+            registers.sr,
+            read_cr(self.chip.lines, registers.cr),
+            registers.epc,
+            registers.bar,
+            registers.ad,
+            registers.ir,
+            registers.dt,
+        ]);
         all[..32].copy_from_slice(&registers.general);
         all
     }
