@@ -16,12 +16,7 @@ impl Counts {
         ensures { result.report ≡ zeros }
     {
         Counts {
-            report: Report {
-                cycles: 0,
-                frozen: 0,
-                boundaries: 0,
-                place: 0,
-            },
+            report: Report::default(),
         }
     }
 
