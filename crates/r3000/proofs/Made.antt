@@ -1,15 +1,15 @@
 -- A cycle, put together from what the code does in it. Assumes nothing.
-use Rattle.std.proofs.Common.{◌≡◌, ℕ, zero, suc, ◌+◌, ◌≤◌, Bool, true, false, cond, ◌||◌, eqb, ltb, is_some, Some, None, Err, Option, Result, sym, refl, ap, ◌∙◌, subst, ap₂, arith}
-use Rattle.std.proofs.lemmas.Bool.{ltb-false, true≢false}
+use Rattle.std.proofs.Common.{◌≡◌, ℕ, zero, suc, ◌+◌, ◌≤◌, Bool, true, false, cond, Ok, Err, Option, Result, refl, ap, ◌∙◌, subst, ap₂, arith}
+use Rattle.std.proofs.lemmas.Result.{err_from_is_err_and}
+use Rattle.std.specs.Result.{IsErrAnd}
 use Rattle.bus.specs.declared.request.Answer.{Answer}
 use Rattle.bus.specs.declared.request.Request.{Request}
 use Rattle.microprogram.specs.Cycle.{access, advanced, ends, requested, worked}
-use Rattle.r3000.specs.Calls.{Unless, run_denial, too_many}
+use Rattle.r3000.specs.Calls.{Checked, check_cycles, check_run}
 use Rattle.r3000.specs.Counts.{counted, limit}
 use Rattle.r3000.specs.Cycle.{Asks, Cycle, Cycles, freezes}
 use Rattle.r3000.specs.Machine.{Machine, hand, later}
 use Rattle.r3000.specs.declared.denial.Denial.{Denial}
-use Rattle.r3000.specs.declared.denial.Denial.TheVariants as denial
 use Rattle.r3000.specs.declared.report.Report.{Report}
 use Rattle.rows.specs.declared.row.Row.{Row}
 
@@ -41,23 +41,15 @@ as_many steps says (suc n) c d h =
     omega (arith, as_many steps says n c h.0 h.2, ap (λ m. m.cycles) h.3.report, one_more h.1 (ends (hand h.0.state).sequencing) h.0.report)
 
 -- cycles that are not denied stay within the limit
-pub granted : (n : ℕ) (report : Report) → None ≡ too_many n report → report.cycles + n ≤ limit
-granted n report e = by (ltb limit (report.cycles + n)) refl e
-  where
-    by : (t : Bool) → ltb limit (report.cycles + n) ≡ t → None ≡ cond t (Some denial.Cycles) None → report.cycles + n ≤ limit
-    by true h e = absurd (true≢false (ap is_some (sym e)))
-    by false h e = ltb-false limit (report.cycles + n) h
+pub granted : (n : ℕ) (report : Report) (u : Unit {0}) → Ok u ≡ check_cycles n report → report.cycles + n ≤ limit
+granted n report u e = grind arith
 
-pub run_granted : (n : ℕ) (report : Report) → None ≡ run_denial n report → report.cycles + n ≤ limit
-run_granted n report e = by (eqb n 0 || ltb 65535 n) e
-  where
-    by : (t : Bool) → None ≡ cond t (Some denial.Range) (too_many n report) → report.cycles + n ≤ limit
-    by true e = absurd (true≢false (ap is_some (sym e)))
-    by false e = granted n report e
+pub run_granted : (n : ℕ) (report : Report) (u : Unit {0}) → Ok u ≡ check_run n report → report.cycles + n ≤ limit
+run_granted n report u e = grind arith
 
 -- a call that is denied, and one that is not
-pub denied : {S : Type 0} (T : Type 0) (o : Option Denial) (e : Denial) (c : Machine S) (does : Type 0) → Some e ≡ o → Unless {T = T} o c (Err e) c does
-denied T o e c does h = subst (λ o. Unless {T = T} o c (Err e) c does) h (refl, refl)
+pub denied : {S T : Type 0} (o : Result (Unit {0}) Denial) (e : Denial) (c : Machine S) (r : Result T Denial) (does : Type 0) → Err e ≡ o → IsErrAnd r (λ d. d ≡ e) → Checked o c r c does
+denied o e c r does h d = let p = err_from_is_err_and r d in subst (λ o. Checked o c r c does) h (p.1 ∙ ap Err p.2, refl)
 
-pub undenied : {S T : Type 0} (o : Option Denial) (c d : Machine S) (r : Result T Denial) (does : Type 0) → None ≡ o → does → Unless o c r d does
-undenied o c d r does h k = subst (λ o. Unless o c r d does) h k
+pub undenied : {S T : Type 0} (o : Result (Unit {0}) Denial) (c d : Machine S) (r : Result T Denial) (does : Type 0) (u : Unit {0}) → Ok u ≡ o → does → Checked o c r d does
+undenied o c d r does u h k = subst (λ o. Checked o c r d does) h k

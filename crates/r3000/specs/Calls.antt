@@ -1,5 +1,5 @@
 -- What each call does and replies; a denied one leaves the core as it is. Assumes nothing.
-use Rattle.std.specs.Prelude.{◌≡◌, ℕ, ◌+◌, Bool, cond, ◌||◌, Some, None, Ok, Err, Option, Result, ◌==◌, nat_lt, slice_index, slice_index_or}
+use Rattle.std.specs.Prelude.{◌≡◌, ℕ, ◌+◌, Bool, cond, ◌||◌, Some, None, Ok, Err, Result, ◌==◌, nat_lt, slice_index, slice_index_or}
 use Rattle.bus.specs.Meaning.{Meaning, looked}
 use Rattle.bus.specs.declared.request.Answer.{Answer}
 use Rattle.bus.specs.declared.request.Request.{Request}
@@ -16,26 +16,26 @@ use Rattle.r3000.specs.declared.report.Clocked.{Clocked}
 use Rattle.r3000.specs.declared.report.Report.{Report}
 
 -- cycles are denied where their count would pass the limit
-abbrev pub too_many : ℕ → Report → Option Denial
-too_many n report = cond (nat_lt limit (report.cycles + n)) (Some denial.Cycles) None
+abbrev pub check_cycles : ℕ → Report → Result (Unit {0}) Denial
+check_cycles n report = cond (nat_lt limit (report.cycles + n)) (Err denial.Cycles) (Ok tt)
 
 -- a run has 1 to 65,535 cycles
-abbrev pub run_denial : ℕ → Report → Option Denial
-run_denial n report = cond (n == 0 || nat_lt 65535 n) (Some denial.Range) (too_many n report)
+abbrev pub check_run : ℕ → Report → Result (Unit {0}) Denial
+check_run n report = cond (n == 0 || nat_lt 65535 n) (Err denial.Range) (check_cycles n report)
 
--- a denied call replies the denial and leaves the core as it is; another does what is said of it
-abbrev pub Unless : {S T : Type 0} → Option Denial → Machine S → Result T Denial → Machine S → Type 0 → Type 0
-Unless (Some e) c r d does = (r ≡ Err e) × (d ≡ c)
-Unless None c r d does = does
+-- a call that its check denies replies the denial and leaves the core as it is; another does what is said of it
+abbrev pub Checked : {S T : Type 0} → Result (Unit {0}) Denial → Machine S → Result T Denial → Machine S → Type 0 → Type 0
+Checked (Err e) c r d does = (r ≡ Err e) × (d ≡ c)
+Checked (Ok _) c r d does = does
 
 -- clock: one cycle
 abbrev pub Clocks : {S : Type 0} → (S → Request → Answer → S → Type 0) → Machine S → Result Clocked Denial → Machine S → Type 0
 Clocks steps c r d =
-    Unless (too_many 1 c.report) c r d ((frozen : Bool) × Cycle steps c frozen d × (r ≡ Ok (record { frozen = frozen; report = d.report })))
+    Checked (check_cycles 1 c.report) c r d ((frozen : Bool) × Cycle steps c frozen d × (r ≡ Ok (record { frozen = frozen; report = d.report })))
 
 -- run: so many cycles, one after another, and what is said of the core after each of them
 abbrev pub Runs : {S : Type 0} → (S → Request → Answer → S → Type 0) → (Machine S → Type 0) → ℕ → Machine S → Result Report Denial → Machine S → Type 0
-Runs steps says n c r d = Unless (run_denial n c.report) c r d (Cycles steps says n c d × (r ≡ Ok d.report))
+Runs steps says n c r d = Checked (check_run n c.report) c r d (Cycles steps says n c d × (r ≡ Ok d.report))
 
 -- lines: bits 0 to 5 are IT0 to IT5, bit 6 is RST
 abbrev pub lines_reply : ℕ → Result (Unit {0}) Denial

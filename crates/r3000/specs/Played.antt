@@ -17,19 +17,24 @@ use Rattle.r3000.specs.declared.perform.Performance.{Performance}
 use Rattle.r3000.specs.declared.report.Clocked.{Clocked}
 use Rattle.r3000.specs.declared.report.Report.{Report}
 
+-- what a call answers, as a reply; a denial stays one
+abbrev pub replied : {T : Type 0} → (T → Reply) → Result T Denial → Result Reply Denial
+replied f (Ok value) = Ok (f value)
+replied f (Err denial) = Err denial
+
 module _ {S : Type 0} (means : S → Meaning) (steps : S → Request → Answer → S → Type 0) (says : Machine S → Type 0) where
   -- one call, from c to d, with its reply
-  abbrev pub Called : Machine S → Call → Reply → Machine S → Type 0
-  Called c call.Clock r d = (q : Result Clocked Denial) × (r ≡ reply.Clock q) × Clocks steps c q d
-  Called c (call.Run n) r d = (q : Result Report Denial) × (r ≡ reply.Run q) × Runs steps says n c q d
-  Called c (call.Lines n) r d = (r ≡ reply.Lines (lines_reply n)) × (d ≡ lines_set n c)
-  Called c (call.Register n) r d = (r ≡ reply.Register (register_reply n c.state)) × (d ≡ c)
-  Called c call.Snapshot r d = (r ≡ reply.Snapshot (numbered c.state)) × (d ≡ c)
-  Called c (call.Ledger n) r d = (r ≡ reply.Ledger (ledger_reply n c.state)) × (d ≡ c)
-  Called c (call.Look address) r d = (r ≡ reply.Look (look_reply (means c.pile) address)) × (d ≡ c)
+  abbrev pub Called : Machine S → Call → Result Reply Denial → Machine S → Type 0
+  Called c call.Clock r d = (q : Result Clocked Denial) × (r ≡ replied reply.Clock q) × Clocks steps c q d
+  Called c (call.Run n) r d = (q : Result Report Denial) × (r ≡ replied reply.Run q) × Runs steps says n c q d
+  Called c (call.Lines n) r d = (r ≡ replied (λ set. reply.Lines) (lines_reply n)) × (d ≡ lines_set n c)
+  Called c (call.Register n) r d = (r ≡ replied reply.Register (register_reply n c.state)) × (d ≡ c)
+  Called c call.Snapshot r d = (r ≡ Ok (reply.Snapshot (numbered c.state))) × (d ≡ c)
+  Called c (call.Ledger n) r d = (r ≡ replied reply.Ledger (ledger_reply n c.state)) × (d ≡ c)
+  Called c (call.Look address) r d = (r ≡ replied reply.Look (look_reply (means c.pile) address)) × (d ≡ c)
 
   -- calls one after another, each with its reply, and what is said of the core after each of them and after each cycle
-  abbrev pub Played : Machine S → List Call → List Reply → Machine S → Type 0
+  abbrev pub Played : Machine S → List Call → List (Result Reply Denial) → Machine S → Type 0
   Played c [] [] d = d ≡ c
   Played c [] (r ∷ rs) d = ⊥
   Played c (x ∷ xs) [] d = ⊥
@@ -41,7 +46,7 @@ pub record Promised {S : Type 0} (means : S → Meaning) (steps : S → Request 
   pub promise : Promise means start c
 
 -- calls on a core that was built on a pile: at power-up, after each call, and after each cycle inside a run, the promise holds
-pub record Performed {S : Type 0} (means : S → Meaning) (steps : S → Request → Answer → S → Type 0) (start : S) (calls : List Call) (replies : List Reply) (c : Machine S) : Type 0 where
+pub record Performed {S : Type 0} (means : S → Meaning) (steps : S → Request → Answer → S → Type 0) (start : S) (calls : List Call) (replies : List (Result Reply Denial)) (c : Machine S) : Type 0 where
   pub begun : Promised means steps start (built start)
   pub played : Played means steps (Promised means steps start) (built start) calls replies c
 

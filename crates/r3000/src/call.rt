@@ -1,6 +1,5 @@
 //! The calls as values.
 
-use super::denial::Denial;
 use super::report::{Clocked, Report};
 use microprogram::ledger::Entry;
 
@@ -16,14 +15,14 @@ pub enum Call {
     Look(u32),
 }
 
-/// What a call answered.
+/// What a call that is not denied answers.
 #[derive(Clone, Copy)]
 pub enum Reply {
-    Clock(Result<Clocked, Denial>),
-    Run(Result<Report, Denial>),
-    Lines(Result<(), Denial>),
-    Register(Result<u32, Denial>),
+    Clock(Clocked),
+    Run(Report),
+    Lines,
+    Register(u32),
     Snapshot([u32; 42]),
-    Ledger(Result<Entry, Denial>),
-    Look(Result<u8, Denial>),
+    Ledger(Entry),
+    Look(u8),
 }

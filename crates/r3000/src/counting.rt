@@ -1,7 +1,7 @@
 //! How the counts rise.
 
 ghost use Rattle.std.specs.Prelude.{◌≡◌, ◌<◌};
-ghost use Rattle.r3000.specs.Calls.{run_denial, too_many};
+ghost use Rattle.r3000.specs.Calls.{check_cycles, check_run};
 ghost use Rattle.r3000.specs.Counts.{counted, limit, zeros};
 
 use super::counts::Counts;
@@ -16,34 +16,28 @@ impl Counts {
         ensures { result.report ≡ zeros }
     {
         Counts {
-            report: Report {
-                cycles: 0,
-                frozen: 0,
-                boundaries: 0,
-                place: 0,
-            },
+            report: Report::default(),
         }
     }
 
-    /// Why so many cycles more cannot be made.
-    pub(crate) fn too_many(&self, count: u32) -> Option<Denial>
-        ensures { result ≡ too_many count self.now.report }
+    /// Whether so many cycles more can be made.
+    pub(crate) fn check_cycles(&self, count: u32) -> Result<(), Denial>
+        ensures { result ≡ check_cycles count self.now.report }
     {
         if self.report.cycles + u64::from(count) > LIMIT {
-            Some(Denial::Cycles)
-        } else {
-            None
+            return Err(Denial::Cycles);
         }
+        Ok(())
     }
 
-    /// Why a run of so many cycles is denied.
-    pub(crate) fn run_denial(&self, count: u32) -> Option<Denial>
-        ensures { result ≡ run_denial count self.now.report }
+    /// Whether a run can have so many cycles.
+    pub(crate) fn check_run(&self, count: u32) -> Result<(), Denial>
+        ensures { result ≡ check_run count self.now.report }
     {
         if count == 0 || count > 65_535 {
-            return Some(Denial::Range);
+            return Err(Denial::Range);
         }
-        self.too_many(count)
+        self.check_cycles(count)
     }
 
     /// One cycle more, by whether it was frozen and whether its row ends a path.

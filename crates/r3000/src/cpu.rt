@@ -42,9 +42,7 @@ impl<B: Bus> Core<B> {
     pub fn clock(&mut self) -> Result<Clocked, Denial>
         ensures { Happens (λ c d. Clocks B.Bus.steps c result d) self.old self.new }
     {
-        if let Some(denial) = self.counts.too_many(1) {
-            return Err(denial);
-        }
+        self.counts.check_cycles(1)?;
         let frozen = cycle(&mut self.chip, self.lines, &mut self.counts, &mut self.pile);
         Ok(Clocked {
             frozen,
@@ -56,9 +54,7 @@ impl<B: Bus> Core<B> {
     pub fn run(&mut self, count: u32) -> Result<Report, Denial>
         ensures { Happens (λ c d. Runs B.Bus.steps Anything count c result d) self.old self.new }
     {
-        if let Some(denial) = self.counts.run_denial(count) {
-            return Err(denial);
-        }
+        self.counts.check_run(count)?;
         let mut chip = self.chip;
         let mut counts = self.counts;
         for _ in 0..count {
@@ -87,16 +83,18 @@ impl<B: Bus> Core<B> {
     {
         let registers = self.chip.registers;
         let mut all = [0; 42];
-        all[32] = registers.pc;
-        all[33] = registers.hi;
-        all[34] = registers.lo;
-        all[35] = registers.sr;
-        all[36] = read_cr(self.chip.lines, registers.cr);
-        all[37] = registers.epc;
-        all[38] = registers.bar;
-        all[39] = registers.ad;
-        all[40] = registers.ir;
-        all[41] = registers.dt;
+        all[32..].copy_from_slice(&[
+            registers.pc,
+            registers.hi,
+            registers.lo,
+            registers.sr,
+            read_cr(self.chip.lines, registers.cr),
+            registers.epc,
+            registers.bar,
+            registers.ad,
+            registers.ir,
+            registers.dt,
+        ]);
         all[..32].copy_from_slice(&registers.general);
         all
     }

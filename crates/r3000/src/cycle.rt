@@ -17,17 +17,14 @@ use rows::rows::row;
 fn ask<B: Bus>(pile: &mut B, request: Option<Request>) -> Option<Answer>
     ensures { Asks B.Bus.steps pile.old request result pile.new }
 {
-    match request {
-        Some(request) => Some(pile.request(request)),
-        None => None,
-    }
+    Some(pile.request(request?))
 }
 
 /// A cycle is frozen exactly when the pile answers wait.
 fn freezes(answer: Option<Answer>) -> bool
     ensures { result ≡ freezes answer }
 {
-    matches!(answer, Some(Answer::Wait))
+    answer == Some(Answer::Wait)
 }
 
 /// One cycle; tells whether it was frozen.

@@ -7,11 +7,11 @@ ghost use Rattle.r3000.specs.Denial.{number_of};
 #[derive(Clone, Copy, PartialEq, Eq)]
 pub enum Denial {
     /// Lines, a count of cycles, a register or a ledger entry out of range.
-    Range,
+    Range = 8,
     /// The cycles would pass 2^62.
-    Cycles,
+    Cycles = 9,
     /// The byte's word is refused to reads.
-    Refused,
+    Refused = 10,
 }
 
 impl Denial {
@@ -19,10 +19,6 @@ impl Denial {
     pub fn number(self) -> u8
         ensures { result ≡ number_of self }
     {
-        match self {
-            Denial::Range => 8,
-            Denial::Cycles => 9,
-            Denial::Refused => 10,
-        }
+        self as u8
     }
 }

@@ -5,22 +5,23 @@ ghost use Rattle.r3000.specs.Played.{Called, Handed};
 
 use super::call::{Call, Reply};
 use super::cpu::Core;
+use super::denial::Denial;
 use bus::memory::Bus;
 use std::alloc::Global;
 
 impl<B: Bus> Core<B> {
     /// The call that a value stands for.
-    fn call(&mut self, call: Call) -> Reply
+    fn call(&mut self, call: Call) -> Result<Reply, Denial>
         ensures { Happens (λ c d. Called B.Bus.means B.Bus.steps Anything c call result d) self.old self.new }
     {
         match call {
-            Call::Clock => Reply::Clock(self.clock()),
-            Call::Run(count) => Reply::Run(self.run(count)),
-            Call::Lines(lines) => Reply::Lines(self.lines(lines)),
-            Call::Register(number) => Reply::Register(self.register(number)),
-            Call::Snapshot => Reply::Snapshot(self.snapshot()),
-            Call::Ledger(code) => Reply::Ledger(self.ledger(code)),
-            Call::Look(address) => Reply::Look(self.look(address)),
+            Call::Clock => self.clock().map(Reply::Clock),
+            Call::Run(count) => self.run(count).map(Reply::Run),
+            Call::Lines(lines) => self.lines(lines).map(|()| Reply::Lines),
+            Call::Register(number) => self.register(number).map(Reply::Register),
+            Call::Snapshot => Ok(Reply::Snapshot(self.snapshot())),
+            Call::Ledger(code) => self.ledger(code).map(Reply::Ledger),
+            Call::Look(address) => self.look(address).map(Reply::Look),
         }
     }
 }
@@ -28,7 +29,7 @@ impl<B: Bus> Core<B> {
 /// Calls that were performed: their replies, in order, and the core as they left it.
 #[derive(Drop)]
 pub struct Performance<B> {
-    pub replies: Vec<Reply>,
+    pub replies: Vec<Result<Reply, Denial>>,
     pub core: Core<B>,
 }
 

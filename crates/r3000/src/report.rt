@@ -1,7 +1,7 @@
 //! What a core reports.
 
 /// The counts since power-up, and the place: the unfrozen cycles since the last boundary or power-up.
-#[derive(Clone, Copy, PartialEq, Eq)]
+#[derive(Clone, Copy, Default, PartialEq, Eq)]
 pub struct Report {
     pub cycles: u64,
     pub frozen: u64,

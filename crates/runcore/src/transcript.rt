@@ -1,6 +1,7 @@
 //! The program's output.
 
 use bus::settle::Settled;
+use microprogram::ledger::Entry;
 use r3000::call::{Call, Reply};
 use r3000::denial::Denial;
 use r3000::report::Report;
@@ -48,12 +49,12 @@ impl fmt::Display for Counted {
 
 /// A reply as it is printed; a snapshot shows in what changed.
 #[derive(Drop)]
-struct Answered(Reply);
+struct Answered(Result<Reply, Denial>);
 
 impl fmt::Display for Answered {
     fn fmt<W: fmt::Write>(&self, f: &mut fmt::Formatter<W>) -> fmt::Result {
         match self.0 {
-            Reply::Clock(Ok(clocked)) => {
+            Ok(Reply::Clock(clocked)) => {
                 let frozen = if clocked.frozen {
                     "frozen"
                 } else {
@@ -61,25 +62,15 @@ impl fmt::Display for Answered {
                 };
                 write!(f, "{frozen}; {}", Counted(clocked.report))
             }
-            Reply::Run(Ok(report)) => write!(f, "{}", Counted(report)),
-            Reply::Lines(Ok(_)) => write!(f, "set"),
-            Reply::Register(Ok(word)) => write!(f, "{word:08X}"),
-            Reply::Snapshot(_) => write!(f, "taken"),
-            Reply::Ledger(Ok(entry)) => {
-                let count = entry.count;
-                let epc = entry.epc;
+            Ok(Reply::Run(report)) => write!(f, "{}", Counted(report)),
+            Ok(Reply::Lines) => write!(f, "set"),
+            Ok(Reply::Register(word)) => write!(f, "{word:08X}"),
+            Ok(Reply::Snapshot(_)) => write!(f, "taken"),
+            Ok(Reply::Ledger(Entry { count, epc })) => {
                 write!(f, "count {count}, last EPC {epc:08X}")
             }
-            Reply::Look(Ok(byte)) => write!(f, "{byte:02X}"),
-            Reply::Clock(Err(denial))
-            | Reply::Run(Err(denial))
-            | Reply::Lines(Err(denial))
-            | Reply::Register(Err(denial))
-            | Reply::Ledger(Err(denial))
-            | Reply::Look(Err(denial)) => {
-                let number = denial.number();
-                write!(f, "denied {number}")
-            }
+            Ok(Reply::Look(byte)) => write!(f, "{byte:02X}"),
+            Err(denial) => write!(f, "denied {}", denial.number()),
         }
     }
 }
@@ -117,10 +108,14 @@ fn changed(rt: &HostRuntime, before: &[u32; 42], after: &[u32; 42]) -> anyhow::R
 }
 
 /// Every call with its reply, and the registers that it changed.
-pub(crate) fn performed(rt: &HostRuntime, calls: &[Call], replies: &[Reply]) -> anyhow::Result<()> {
+pub(crate) fn performed(
+    rt: &HostRuntime,
+    calls: &[Call],
+    replies: &[Result<Reply, Denial>],
+) -> anyhow::Result<()> {
     let mut before = [0; 42];
     for (call, reply) in calls.iter().zip(replies) {
-        if let Reply::Snapshot(after) = *reply {
+        if let Ok(Reply::Snapshot(after)) = *reply {
             changed(rt, &before, &after)?;
             before = after;
         } else {
