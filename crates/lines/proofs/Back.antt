@@ -1,8 +1,12 @@
 -- Reading what was written. Assumes nothing.
-use Rattle.std.proofs.Common.{◌≡◌, ℕ, zero, suc, ◌+◌, ◌-◌, ◌*◌, ◌/◌, ◌%◌, ◌^◌, ◌<◌, ◌≤◌, Bool, true, false, cond, eqb, ltb, List, [], ◌∷◌, ◌++◌, map, length, Some, None, sym, refl, ap, ◌∙◌, ap₂, mod-eq_of_lt, arith}
+use Rattle.std.proofs.Common.{◌≡◌, ℕ, zero, suc, ◌+◌, ◌-◌, ◌*◌, ◌/◌, ◌%◌, ◌^◌, ◌<◌, ◌≤◌, Bool, true, false, cond, eqb, ltb, List, [], ◌∷◌, ◌++◌, map, length, Some, sym, refl, ap, ◌∙◌, ap₂, mod-eq_of_lt, arith}
 use native.Mathlib.Nat.{pow-succ'}
 use lib.Arith.{mod-mul}
 use Rattle.std.proofs.lemmas.Bool.{and_from, and_right, cond-false, cond-true, le-leb, lt-leb, ltb-false, ltb-true, ne_eqb}
+use Rattle.std.proofs.lemmas.List.Elements.{All-cons}
+use Rattle.std.proofs.lemmas.List.Splits.{slice_split_at, slice_split_none}
+use Rattle.std.specs.List.{All}
+use Rattle.std.specs.Option.{unwrap_or}
 use Rattle.lines.specs.Digit.{byte_of, digit_of}
 use Rattle.lines.specs.Line.{digit, fields_of, value_of}
 use Rattle.lines.specs.Reread.{RoundTrip, reread_fields}
@@ -27,8 +31,8 @@ digit_back : (d : ℕ) → d < 16 → digit (byte_of d) ≡ d
 digit_back d h = by (ltb d 10) refl
   where
     by : (t : Bool) → ltb d 10 ≡ t → digit (cond t (48 + d) (55 + d)) ≡ d
-    by true e = let small : d < 10 = ltb-true d 10 e in ap (λ o. elim o [ Some x ↦ x | None ↦ 0 ]) (figure (48 + d) (omega arith) (omega arith)) ∙ omega arith
-    by false e = let big : 10 ≤ d = ltb-false d 10 e in ap (λ o. elim o [ Some x ↦ x | None ↦ 0 ]) (letter (55 + d) (omega arith) (omega arith)) ∙ omega arith
+    by true e = let small : d < 10 = ltb-true d 10 e in ap (λ o. unwrap_or o 0) (figure (48 + d) (omega arith) (omega arith)) ∙ omega arith
+    by false e = let big : 10 ≤ d = ltb-false d 10 e in ap (λ o. unwrap_or o 0) (letter (55 + d) (omega arith) (omega arith)) ∙ omega arith
 
 long : (n v : ℕ) → length (digits n v) ≡ n
 long zero v = refl
@@ -46,24 +50,24 @@ value_back (suc n) v =
     sixteen (suc n) = omega (arith, sixteen n, pow-succ' 16 n)
 
 -- digits are a field, and a space behind them ends it
-alone : (n v : ℕ) → fields_of (digits n v) ≡ record { first = digits n v; rest = [] }
-alone zero v = refl
-alone (suc n) v =
-    cond-false _ _ _ (no_space (v / 16 ^ n % 16)) ∙ ap (λ p. record { first = byte_of (v / 16 ^ n % 16) ∷ p.first; rest = p.rest }) (alone n v)
+no_spaces : (n v : ℕ) → All (λ b. eqb b 32 ≡ false) (digits n v)
+no_spaces zero v = λ k d h. absurd (omega arith)
+no_spaces (suc n) v = All-cons (λ b. eqb b 32 ≡ false) (byte_of (v / 16 ^ n % 16)) (digits n v) (no_space (v / 16 ^ n % 16)) (no_spaces n v)
 
-apart : (n v : ℕ) (xs : List ℕ) → fields_of (digits n v ++ 32 ∷ xs) ≡ record { first = digits n v; rest = (fields_of xs).first ∷ (fields_of xs).rest }
-apart zero v xs = refl
-apart (suc n) v xs =
-    cond-false _ _ _ (no_space (v / 16 ^ n % 16)) ∙ ap (λ p. record { first = byte_of (v / 16 ^ n % 16) ∷ p.first; rest = p.rest }) (apart n v xs)
+alone : (n v : ℕ) → fields_of (digits n v) ≡ digits n v ∷ []
+alone n v = slice_split_none _ (digits n v) (no_spaces n v)
+
+apart : (n v : ℕ) (xs : List ℕ) → fields_of (digits n v ++ 32 ∷ xs) ≡ digits n v ∷ fields_of xs
+apart n v xs = slice_split_at _ (digits n v) 32 xs (no_spaces n v) refl
 
 -- a number that its width can hold is read back
 whole : (n v : ℕ) → v < 16 ^ n → value_of (digits n v) ≡ v
 whole n v h = value_back n v ∙ mod-eq_of_lt h
 
 -- the fields of what was written
-all_fields : (f : Field) (fs : List Field) → fields_of (parted (f ∷ fs)) ≡ record { first = digits f.0 f.1; rest = map (λ g. digits g.0 g.1) fs }
+all_fields : (f : Field) (fs : List Field) → fields_of (parted (f ∷ fs)) ≡ map (λ g. digits g.0 g.1) (f ∷ fs)
 all_fields f [] = alone f.0 f.1
-all_fields f (g ∷ gs) = apart f.0 f.1 (parted (g ∷ gs)) ∙ ap (λ p. record { first = digits f.0 f.1; rest = p.first ∷ p.rest }) (all_fields g gs)
+all_fields f (g ∷ gs) = apart f.0 f.1 (parted (g ∷ gs)) ∙ ap (λ p. digits f.0 f.1 ∷ p) (all_fields g gs)
 
 pub round_trip : RoundTrip
 round_trip Loaded h = refl

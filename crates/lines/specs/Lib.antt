@@ -2,5 +2,4 @@ pub mod Digit
 pub mod Fault
 pub mod Line
 pub mod Reread
-pub mod Scan
 pub mod Written

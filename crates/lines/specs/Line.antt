@@ -1,5 +1,7 @@
 -- What a line means, or why it is denied. Assumes nothing.
 use Rattle.std.specs.Prelude.{ℕ, ◌+◌, ◌*◌, ◌^◌, Bool, true, false, cond, ◌&&◌, List, [], ◌∷◌, map, length, is_some, Some, None, Ok, Err, Option, Result, ◌==◌, nat_lt, slice_index}
+use Rattle.std.specs.List.{list_all, slice_split}
+use Rattle.std.specs.Option.{unwrap_or}
 use Rattle.lines.specs.Digit.{digit_of}
 use Rattle.lines.specs.declared.fault.JobFault.{JobFault}
 use Rattle.lines.specs.declared.fault.JobFault.TheVariants as fault
@@ -8,31 +10,20 @@ use Rattle.lines.specs.declared.order.Kind.TheVariants as kind
 use Rattle.lines.specs.declared.order.Order.{Order}
 use Rattle.lines.specs.declared.order.Order.TheVariants as order
 
--- a line's fields: the first, and those behind it
-pub record Fields : Type 0 where
-  pub first : List ℕ
-  pub rest : List (List ℕ)
-
--- single spaces part them; two spaces in a row, or one at an end of the line, leave an empty field
-abbrev pub fields_of : List ℕ → Fields
-fields_of [] = record { first = []; rest = [] }
-fields_of (b ∷ bs) =
-    cond (b == 32) (record { first = []; rest = (fields_of bs).first ∷ (fields_of bs).rest }) (record { first = b ∷ (fields_of bs).first; rest = (fields_of bs).rest })
-
-abbrev pub all : {A : Type 0} → (A → Bool) → List A → Bool
-all p [] = true
-all p (x ∷ xs) = p x && all p xs
+-- a line's fields: single spaces part them; two spaces in a row, or one at an end of the line, leave an empty field
+abbrev pub fields_of : List ℕ → List (List ℕ)
+fields_of line = slice_split (λ b. b == 32) line
 
 abbrev pub is_digit : ℕ → Bool
 is_digit b = is_some (digit_of b)
 
 -- a field in form: digits, at least one
 abbrev pub in_form : List ℕ → Bool
-in_form f = nat_lt 0 (length f) && all is_digit f
+in_form f = nat_lt 0 (length f) && list_all is_digit f
 
 -- the value of a field: its digits, the first one highest
 abbrev pub digit : ℕ → ℕ
-digit b = elim (digit_of b) [ Some d ↦ d | None ↦ 0 ]
+digit b = unwrap_or (digit_of b) 0
 
 abbrev pub value_of : List ℕ → ℕ
 value_of [] = 0
@@ -75,9 +66,11 @@ abbrev pub ordered : Option Kind → List (List ℕ) → Result Order JobFault
 ordered None fs = Err fault.Unknown
 ordered (Some k) fs = cond (fits (widths k) fs) (Ok (built k (map value_of fs))) (Err fault.Form)
 
-abbrev pub meant : Fields → Result Order JobFault
-meant p = ordered (kind_of p.first) p.rest
+-- the first field names the kind; every line has one
+abbrev pub meant : List (List ℕ) → Result Order JobFault
+meant [] = Err fault.Form
+meant (f ∷ fs) = ordered (kind_of f) fs
 
 -- what a line means, or its first denial
 abbrev pub read_line : List ℕ → Result Order JobFault
-read_line line = cond (in_form (fields_of line).first && all in_form (fields_of line).rest) (meant (fields_of line)) (Err fault.Form)
+read_line line = cond (list_all in_form (fields_of line)) (meant (fields_of line)) (Err fault.Form)

@@ -1,6 +1,6 @@
 -- Reading a reply back. Assumes nothing.
 use Rattle.std.specs.Prelude.{◌≡◌, ℕ, ◌^◌, ◌<◌, cond, List, [], ◌∷◌, map, length, Some, None, Option, ◌==◌, slice_index}
-use Rattle.lines.specs.Line.{Fields, fields_of, fits, value_of}
+use Rattle.lines.specs.Line.{fields_of, fits, value_of}
 use Rattle.lines.specs.Written.{Field, fields_in, parted}
 use Rattle.lines.specs.declared.reply.Reply.{Reply}
 use Rattle.lines.specs.declared.reply.Reply.TheVariants.{Loaded, Started, Set, Ran, Shown, Denied}
@@ -19,8 +19,9 @@ reread_as k fs =
     (cond (k == 0x50) (where_fit (2 ∷ 8 ∷ []) fs (Shown (value fs 0) (value fs 1)))
     (cond (k == 0xFF) (where_fit (2 ∷ 8 ∷ 8 ∷ []) fs (Denied (record { number = value fs 0; line = value fs 1; address = value fs 2 }))) None)))))
 
-abbrev pub reread_fields : Fields → Option Reply
-reread_fields p = cond (length p.first == 2) (reread_as (value_of p.first) p.rest) None
+abbrev pub reread_fields : List (List ℕ) → Option Reply
+reread_fields [] = None
+reread_fields (f ∷ fs) = cond (length f == 2) (reread_as (value_of f) fs) None
 
 -- the reply that a line, without its byte 0A, tells
 abbrev pub reread : List ℕ → Option Reply

@@ -7,5 +7,4 @@ pub mod fault;
 pub mod order;
 pub mod reading;
 pub mod reply;
-mod scan;
 pub mod writing;

@@ -1,13 +1,34 @@
 //! What a line asks for.
 
-/// The five kinds of line.
+ghost use Rattle.std.specs.Prelude.{◌≡◌};
+ghost use Rattle.std.specs.Option.{ok_or};
+ghost use Rattle.lines.specs.declared.fault.JobFault.TheVariants.{Unknown};
+
+use super::fault::JobFault;
+
+/// The five kinds of line, by their codes.
 #[derive(Clone, Copy)]
 pub enum Kind {
-    Load,
-    Start,
-    Lines,
-    Run,
-    Show,
+    Load = 0x10,
+    Start = 0x20,
+    Lines = 0x30,
+    Run = 0x40,
+    Show = 0x50,
+}
+
+impl TryFrom<u8> for Kind {
+    type Error = JobFault;
+
+    ghost use Rattle.lines.specs.Line.{kind_at};
+
+    ghost try_from_gives = { λ code r. r ≡ ok_or (kind_at code) Unknown };
+
+    fn try_from(code: u8) -> Result<Kind, JobFault> {
+        [Kind::Load, Kind::Start, Kind::Lines, Kind::Run, Kind::Show]
+            .into_iter()
+            .find(|kind| code == *kind as u8)
+            .ok_or(JobFault::Unknown)
+    }
 }
 
 /// A line that is rightly formed.

@@ -1,78 +1,84 @@
 //! Reading a line.
 
-ghost use Rattle.std.specs.Prelude.{◌≡◌};
-ghost use Rattle.lines.specs.Line.{kind_at, read_line};
-ghost use Rattle.lines.specs.Scan.{formed, kind_in, meaning, order_in};
+ghost use Rattle.std.specs.Prelude.{◌≡◌, ◌==◌, ◌^◌, ◌<◌, ◌≤◌, ◌∷◌, cond, length, map, take, Some, None, IfSome};
+ghost use Rattle.std.specs.List.{list_all};
+ghost use Rattle.std.specs.Option.{ok_or, some_prefix};
+ghost use Rattle.lines.specs.Line.{fields_of, in_form, kind_of, ordered, read_line, value_of};
+ghost use Rattle.lines.specs.declared.fault.JobFault.TheVariants.{Form, Unknown};
 
+use super::digit;
 use super::fault::JobFault;
 use super::order::{Kind, Order};
-use super::scan::Scan;
 
-/// The kind that a value of two digits stands for.
-fn kind_at(value: u32) -> Option<Kind>
-    ensures { result ≡ kind_at value }
+/// Whether a field is digits, at least one.
+fn is_in_form(field: &[u8]) -> bool
+    ensures { result ≡ in_form field.now }
 {
-    match value {
-        0x10 => Some(Kind::Load),
-        0x20 => Some(Kind::Start),
-        0x30 => Some(Kind::Lines),
-        0x40 => Some(Kind::Run),
-        0x50 => Some(Kind::Show),
+    !field.is_empty() && field.iter().all(|byte| digit::value(*byte).is_some())
+}
+
+/// The value of a field of `WIDTH` digits; none where it has more or fewer.
+fn number<const WIDTH: usize>(field: &[u8]) -> Option<u32>
+    requires { WIDTH ≤ 8 }
+    ensures value { result ≡ cond (length field.now == WIDTH) (Some (value_of field.now)) None }
+    ensures below { IfSome result (λ value. value < 16 ^ WIDTH) }
+{
+    if field.len() != WIDTH {
+        return None;
+    }
+    let digits = field.iter().map(|byte| digit::value(*byte).unwrap_or(0));
+    Some(digits.fold(0u32, |value, digit| {
+        value.wrapping_mul(16).wrapping_add(u32::from(digit))
+    }))
+}
+
+/// The kind that a first field names.
+fn kind(field: &[u8]) -> Result<Kind, JobFault>
+    ensures { result ≡ ok_or (kind_of field.now) Unknown }
+{
+    let code = number::<2>(field).ok_or(JobFault::Unknown)?;
+    Kind::try_from(code as u8)
+}
+
+/// The order of a kind, where the fields behind it are right in count and width. No kind has three.
+fn order(kind: Kind, others: [Option<&[u8]>; 3]) -> Option<Order>
+    ensures { ok_or result Form ≡ ordered (Some kind) (map (λ field. field.now) (some_prefix others.entry)) }
+{
+    match (kind, others) {
+        (Kind::Load, [Some(address), Some(word), None]) => {
+            Some(Order::Load(number::<8>(address)?, number::<8>(word)?))
+        }
+        (Kind::Start, [None, ..]) => Some(Order::Start),
+        (Kind::Lines, [Some(lines), None, _]) => Some(Order::Lines(number::<2>(lines)? as u8)),
+        (Kind::Run, [Some(count), None, _]) => Some(Order::Run(number::<4>(count)? as u16)),
+        (Kind::Show, [Some(register), None, _]) => Some(Order::Show(number::<2>(register)? as u8)),
         _ => None,
     }
 }
 
-impl Scan {
-    /// Whether the line is fields of digits, parted by single spaces.
-    fn formed(&self) -> bool
-        ensures { result ≡ formed self.now }
-    {
-        self.clean && (self.first.width > 0 && self.gapless)
-    }
+/// The first field of a line, which every line has, and up to three behind it.
+fn first_fields(line: &[u8]) -> (&[u8], [Option<&[u8]>; 3])
+    ensures { result.0.now ∷ map (λ field. field.now) (some_prefix result.1) ≡ take 4 (fields_of line.now) }
+{
+    let mut fields = line.split(|byte| *byte == b' ');
+    let first = fields.next().unwrap();
+    (first, [fields.next(), fields.next(), fields.next()])
+}
 
-    fn kind(&self) -> Option<Kind>
-        ensures { result ≡ kind_in self.now }
-    {
-        if self.first.width == 2 {
-            kind_at(self.first.value)
-        } else {
-            None
-        }
-    }
-
-    /// The order of a kind, where the other fields are right in count and width.
-    fn order(&self, kind: Kind) -> Option<Order>
-        ensures { result ≡ order_in kind self.now }
-    {
-        let widths = (self.count, self.second.width, self.third.width);
-        let value = self.second.value;
-        match (kind, widths) {
-            (Kind::Load, (3, 8, 8)) => Some(Order::Load(value, self.third.value)),
-            (Kind::Start, (1, _, _)) => Some(Order::Start),
-            (Kind::Lines, (2, 2, _)) => Some(Order::Lines((value % 256) as u8)),
-            (Kind::Run, (2, 4, _)) => Some(Order::Run((value % 65_536) as u16)),
-            (Kind::Show, (2, 2, _)) => Some(Order::Show((value % 256) as u8)),
-            _ => None,
-        }
-    }
-
-    /// What the line means, or its first denial.
-    fn meaning(&self) -> Result<Order, JobFault>
-        ensures { result ≡ meaning self.now }
-    {
-        if !self.formed() {
-            return Err(JobFault::Form);
-        }
-        match self.kind() {
-            None => Err(JobFault::Unknown),
-            Some(kind) => self.order(kind).ok_or(JobFault::Form),
-        }
-    }
+/// Whether each field of a line is in form.
+fn is_formed(line: &[u8]) -> bool
+    ensures { result ≡ list_all in_form (fields_of line.now) }
+{
+    line.split(|byte| *byte == b' ').all(is_in_form)
 }
 
 /// What a line means, or its first denial.
 pub fn read(line: &[u8]) -> Result<Order, JobFault>
     ensures { result ≡ read_line line.now }
 {
-    Scan::of(line).meaning()
+    if !is_formed(line) {
+        return Err(JobFault::Form);
+    }
+    let (first, others) = first_fields(line);
+    order(kind(first)?, others).ok_or(JobFault::Form)
 }

@@ -1,5 +1,9 @@
 //! What a line is answered.
 
+ghost use Rattle.std.specs.Prelude.{◌≡◌};
+
+use r3000::report::Report;
+
 /// The counts that a run reports.
 #[derive(Clone, Copy)]
 pub struct Counts {
@@ -8,9 +12,22 @@ pub struct Counts {
     pub boundaries: u64,
 }
 
+impl From<Report> for Counts {
+    ghost from_gives = { λ n r. r ≡ record { cycles = n.cycles; frozen = n.frozen; boundaries = n.boundaries } };
+
+    fn from(report: Report) -> Counts {
+        Counts {
+            cycles: report.cycles,
+            frozen: report.frozen,
+            boundaries: report.boundaries,
+        }
+    }
+}
+
 /// A denial: its number, the line from 1, and the address of a refused load.
 #[derive(Clone, Copy)]
 pub struct Denied {
+    /// The number and no fault: a reply tells numbers, and two faults have number 10.
     pub number: u8,
     pub line: u32,
     pub address: u32,
