@@ -1,11 +1,27 @@
 //! What a line is answered.
 
+ghost use Rattle.std.specs.Prelude.{◌≡◌};
+
+use r3000::report::Report;
+
 /// The counts that a run reports.
 #[derive(Clone, Copy)]
 pub struct Counts {
     pub cycles: u64,
     pub frozen: u64,
     pub boundaries: u64,
+}
+
+impl From<Report> for Counts {
+    ghost from_gives = { λ n r. r ≡ record { cycles = n.cycles; frozen = n.frozen; boundaries = n.boundaries } };
+
+    fn from(report: Report) -> Counts {
+        Counts {
+            cycles: report.cycles,
+            frozen: report.frozen,
+            boundaries: report.boundaries,
+        }
+    }
 }
 
 /// A denial: its number, the line from 1, and the address of a refused load.
