@@ -1,77 +1,74 @@
 -- Lines, cut off one by one. Assumes nothing.
-use Rattle.std.proofs.Common.{◌≡◌, ℕ, suc, ◌+◌, ◌<◌, ◌≤◌, min, Bool, true, false, cond, eqb, ◌⊎◌, List, [], ◌∷◌, ◌++◌, length, get_or, take, drop, sym, refl, ap, ◌∙◌, inl, inr, append_assoc, append-nil, arith}
-use Rattle.std.proofs.lemmas.List.{drop_all, drop_more, take_more}
-use Rattle.std.proofs.lemmas.Bool.{cases_lt, cond-false, cond-true, eq-eqb, ne_eqb, true≢false}
-use Rattle.jobs.specs.Cut.{Cut, cut}
+use Rattle.std.proofs.Common.{◌≡◌, ℕ, zero, suc, ◌+◌, ◌-◌, ◌<◌, ◌≤◌, min, Bool, true, false, cond, eqb, List, [], ◌∷◌, ◌++◌, length, take, drop, Some, None, Option, Bor, sym, ap, ap₂, ◌∙◌, subst, arith}
+use Rattle.std.specs.Cmp.Lexicographic.{other_text, same_text}
+use Rattle.std.specs.List.{IsFirstMatchOrLen, between}
+use Rattle.std.specs.Option.{MatchOption, unwrap_or}
+use Rattle.std.proofs.lemmas.Bool.{cond-false, cond-true, eq-eqb, ne_eqb}
+use Rattle.std.proofs.Math.Seq.{drop-append_seam}
+use Rattle.std.proofs.lemmas.Slice.{between_to_end}
 use Rattle.jobs.specs.Job.{begins, lines_of}
+use lib.Pointwise.{pointwise}
 
--- so many bytes were gone through, and none of them ends the line
-pub record Within (bs : List ℕ) (i : ℕ) : Type 0 where
-  pub line : (cut bs).line ≡ take i bs ++ (cut (drop i bs)).line
-  pub rest : (cut bs).rest ≡ (cut (drop i bs)).rest
+-- a line without the byte that may end it
+abbrev plain : List ℕ → List ℕ
+plain [] = []
+plain (b ∷ []) = cond (eqb b 10) [] (b ∷ [])
+plain (b ∷ c ∷ cs) = b ∷ plain (c ∷ cs)
 
-pub within_none : (bs : List ℕ) → Within bs 0
-within_none bs = record { line = refl; rest = refl }
+plain_ended : (n : ℕ) (xs : List ℕ) → length xs ≡ suc n → drop n xs ≡ 10 ∷ [] → plain xs ≡ take n xs
+plain_ended n [] e h = absurd (omega arith)
+plain_ended zero (b ∷ []) e h = let ten : b ≡ 10 = cc in cond-true _ _ _ (eq-eqb b 10 ten)
+plain_ended (suc n) (b ∷ []) e h = absurd (omega arith)
+plain_ended zero (b ∷ c ∷ cs) e h = absurd (omega arith)
+plain_ended (suc n) (b ∷ c ∷ cs) e h = ap (λ ys. b ∷ ys) (plain_ended n (c ∷ cs) (omega arith) h)
 
--- the cut at the byte at hand
-here : (bs : List ℕ) (i : ℕ) → i < length bs → cut (drop i bs) ≡ cond (eqb (get_or bs i 0) 10) (record { line = []; rest = drop (i + 1) bs }) (record { line = get_or bs i 0 ∷ (cut (drop (i + 1) bs)).line; rest = (cut (drop (i + 1) bs)).rest })
-here bs i h = ap cut (drop_more bs i 0 h)
+plain_open : (n : ℕ) (xs : List ℕ) → length xs ≡ suc n → (drop n xs ≡ 10 ∷ [] → ⊥) → plain xs ≡ xs
+plain_open n [] e h = absurd (omega arith)
+plain_open zero (b ∷ []) e h = cond-false _ _ _ (ne_eqb b 10 (λ ten. h (ap (λ x. x ∷ []) ten)))
+plain_open (suc n) (b ∷ []) e h = absurd (omega arith)
+plain_open zero (b ∷ c ∷ cs) e h = absurd (omega arith)
+plain_open (suc n) (b ∷ c ∷ cs) e h = ap (λ ys. b ∷ ys) (plain_open n (c ∷ cs) (omega arith) h)
 
-pub within_more : (bs : List ℕ) (i : ℕ) → i < length bs → (get_or bs i 0 ≡ 10 → ⊥) → Within bs i → Within bs (i + 1)
-within_more bs i h e w =
-    let on : cut (drop i bs) ≡ record { line = get_or bs i 0 ∷ (cut (drop (i + 1) bs)).line; rest = (cut (drop (i + 1) bs)).rest } = here bs i h ∙ cond-false _ _ _ (ne_eqb (get_or bs i 0) 10 e) in
-    record {
-      line = w.line ∙ ap (λ c. take i bs ++ c.line) on ∙ sym (append_assoc (take i bs) (get_or bs i 0 ∷ []) (cut (drop (i + 1) bs)).line) ∙ ap (λ xs. xs ++ (cut (drop (i + 1) bs)).line) (sym (take_more bs i 0 h));
-      rest = w.rest ∙ ap (λ c. c.rest) on;
-    }
+-- what is stripped of the byte 0A
+stripped : (n : ℕ) (x : Bor (List ℕ)) (r : Option (Bor (List ℕ))) → length x.now ≡ suc n
+    → MatchOption r (pointwise eqb (drop n x.now) (10 ∷ []) ≡ false) (λ y. (pointwise eqb (drop n x.now) (10 ∷ []) ≡ true) × (y.now ≡ take n x.now) × (length y.now + 1 ≡ length x.now))
+    → (unwrap_or r x).now ≡ plain x.now
+stripped n x None e h = sym (plain_open n x.now e (other_text _ _ (sym h)))
+stripped n x (Some y) e h = h.1 ∙ sym (plain_ended n x.now e (same_text _ _ (sym h.0)))
 
-pub cut_here : (bs : List ℕ) (i : ℕ) → i < length bs → get_or bs i 0 ≡ 10 → Within bs i → (take i bs ≡ (cut bs).line) × (drop (i + 1) bs ≡ (cut bs).rest)
-cut_here bs i h e w =
-    let on : cut (drop i bs) ≡ record { line = []; rest = drop (i + 1) bs } = here bs i h ∙ cond-true _ _ _ (eq-eqb (get_or bs i 0) 10 e) in
-    (sym (w.line ∙ ap (λ c. take i bs ++ c.line) on ∙ append-nil (take i bs)), sym (w.rest ∙ ap (λ c. c.rest) on))
+-- a part up to a byte 0A, or to the end
+part : (xs rest : List ℕ) (i : ℕ) → 0 < length xs → length xs ≡ min (i + 1) (length (xs ++ rest)) → IsFirstMatchOrLen (λ b. eqb b 10) (xs ++ rest) i
+    → lines_of (xs ++ rest) ≡ plain xs ∷ lines_of rest
+part [] rest i some e h = absurd (omega arith)
+part (b ∷ []) rest zero some e h =
+    let ten : eqb b 10 ≡ true = h.1 (omega arith) 0 in
+    cond-true _ _ _ ten ∙ ap (λ l. l ∷ lines_of rest) (sym (cond-true _ _ _ ten))
+part (b ∷ []) [] (suc i) some e h =
+    let other : eqb b 10 ≡ false = h.0 0 0 (omega arith) (omega arith) in
+    cond-false _ _ _ other ∙ ap (λ l. l ∷ []) (sym (cond-false _ _ _ other))
+part (b ∷ []) (r ∷ rs) (suc i) some e h = absurd (omega arith)
+part (b ∷ c ∷ cs) rest zero some e h = absurd (omega arith)
+part (b ∷ c ∷ cs) rest (suc i) some e h =
+    let other : eqb b 10 ≡ false = h.0 0 0 (omega arith) (omega arith) in
+    let more = part (c ∷ cs) rest i (omega arith) (omega arith) ((λ k d low high. h.0 (suc k) d (omega arith) (omega arith)), (λ below d. h.1 (omega arith) d)) in
+    cond-false _ _ _ other ∙ ap (begins b) more
 
-pub cut_end : (bs : List ℕ) (n : ℕ) → length bs ≤ n → Within bs n → (take n bs ≡ (cut bs).line) × (drop (n + 1) bs ≡ (cut bs).rest)
-cut_end bs n h w = (
-  sym (w.line ∙ ap (λ xs. take n bs ++ (cut xs).line) (drop_all n bs h) ∙ append-nil (take n bs)),
-  drop_all (n + 1) bs (omega arith) ∙ sym (w.rest ∙ ap (λ xs. (cut xs).rest) (drop_all n bs h)),
-)
+-- the first part of a job, stripped, is its first line; those of what follows it come next
+pub next_line : (bs parts rest : List ℕ) (x line : Bor (List ℕ)) (r : Option (Bor (List ℕ))) (i : ℕ)
+    → parts ≡ bs → parts ≡ x.now ++ rest → 0 < length parts → length x.now ≡ min (i + 1) (length parts) → IsFirstMatchOrLen (λ b. eqb b 10) parts i
+    → MatchOption r (pointwise eqb (drop (length x.now - 1) x.now) (10 ∷ []) ≡ false) (λ y. (pointwise eqb (drop (length x.now - 1) x.now) (10 ∷ []) ≡ true) × (y.now ≡ take (length x.now - 1) x.now) × (length y.now + 1 ≡ length x.now))
+    → line ≡ unwrap_or r x → lines_of bs ≡ line.now ∷ lines_of (between (length x.now) (length bs) bs)
+next_line bs parts rest x line r i same whole some e first h is =
+    let here : lines_of (x.now ++ rest) ≡ plain x.now ∷ lines_of rest = part x.now rest i (omega arith) (e ∙ ap (λ ys. min (i + 1) (length ys)) whole) (subst (λ ys. IsFirstMatchOrLen (λ b. eqb b 10) ys i) whole first) in
+    let after : between (length x.now) (length bs) bs ≡ rest = between_to_end bs (length x.now) (length bs) (omega arith) ∙ ap (drop (length x.now)) (sym same ∙ whole) ∙ drop-append_seam x.now rest in
+    ap lines_of (sym same ∙ whole) ∙ here ∙ ap₂ (λ l ys. l ∷ lines_of ys) (sym (ap (λ y. y.now) is ∙ stripped (length x.now - 1) x r (omega arith) h)) (sym after)
 
--- the first line, and the lines of what follows
-ends : (b : ℕ) (bs : List ℕ) → begins b (lines_of bs) ≡ (b ∷ (cut bs).line) ∷ lines_of (cut bs).rest → (t : Bool)
-    → cond t ([] ∷ lines_of bs) (begins b (lines_of bs)) ≡ (cond {A = Cut} t (record { line = []; rest = bs }) (record { line = b ∷ (cut bs).line; rest = (cut bs).rest })).line ∷ lines_of (cond {A = Cut} t (record { line = []; rest = bs }) (record { line = b ∷ (cut bs).line; rest = (cut bs).rest })).rest
-ends b bs h true = refl
-ends b bs h false = h
-
-pub first_line_lem : (b : ℕ) (bs : List ℕ) → lines_of (b ∷ bs) ≡ (cut (b ∷ bs)).line ∷ lines_of (cut (b ∷ bs)).rest
-first_line_lem b [] = ends b [] refl (eqb b 10)
-first_line_lem b (c ∷ cs) = ends b (c ∷ cs) (ap (begins b) (first_line_lem c cs)) (eqb b 10)
-
--- what follows a line is shorter
-pub shorter : (b : ℕ) (bs : List ℕ) → length (cut (b ∷ bs)).rest ≤ length bs
-shorter b [] = by (eqb b 10)
+-- no more lines than bytes
+pub lines_few : (bs : List ℕ) → length (lines_of bs) ≤ length bs
+lines_few [] = omega arith
+lines_few (b ∷ bs) = by (eqb b 10) (lines_of bs) (lines_few bs)
   where
-    by : (t : Bool) → length (cond {A = Cut} t (record { line = []; rest = [] }) (record { line = b ∷ []; rest = [] })).rest ≤ 0
-    by true = omega arith
-    by false = omega arith
-shorter b (c ∷ cs) = by (eqb b 10) (shorter c cs)
-  where
-    by : (t : Bool) → length (cut (c ∷ cs)).rest ≤ length cs → length (cond {A = Cut} t (record { line = []; rest = c ∷ cs }) (record { line = b ∷ (cut (c ∷ cs)).line; rest = (cut (c ∷ cs)).rest })).rest ≤ suc (length cs)
-    by true h = omega arith
-    by false h = omega arith
-
--- of bytes that are some
-pub of_some : (bs : List ℕ) → (eqb (length bs) 0 ≡ false) → (lines_of bs ≡ (cut bs).line ∷ lines_of (cut bs).rest) × (length (cut bs).rest < length bs)
-of_some [] e = absurd (true≢false e)
-of_some (b ∷ bs) e = (first_line_lem b bs, omega (arith, shorter b bs))
-
-pub of_none : (bs : List ℕ) → true ≡ eqb (length bs) 0 → lines_of bs ≡ []
-of_none [] e = refl
-of_none (b ∷ bs) e = absurd (true≢false (e ∙ ne_eqb (suc (length bs)) 0 (λ z. omega arith)))
-
--- what lies past the end is nothing
-pub dropped : (xs : List ℕ) (k m : ℕ) → m ≡ min (length xs) k → drop m xs ≡ drop k xs
-dropped xs k m e = by (cases_lt k (length xs))
-  where
-    by : (k < length xs) ⊎ (length xs ≤ k) → drop m xs ≡ drop k xs
-    by (inl h) = let same : m ≡ k = omega arith in ap (λ n. drop n xs) same
-    by (inr h) = drop_all m xs (omega arith) ∙ sym (drop_all k xs h)
+    by : (t : Bool) (ls : List (List ℕ)) → length ls ≤ length bs → length (cond t ([] ∷ ls) (begins b ls)) ≤ length (b ∷ bs)
+    by true ls h = omega arith
+    by false [] h = omega arith
+    by false (l ∷ ls) h = omega arith

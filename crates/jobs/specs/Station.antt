@@ -1,8 +1,8 @@
 -- What each line does, before the start and after it. Assumes nothing.
 use Rattle.std.specs.Prelude.{◌≡◌, ℕ, Ok, Err, Result}
 use Rattle.bus.specs.Meaning.{Meaning}
+use Rattle.bus.specs.Request.{writing}
 use Rattle.bus.specs.Settled.{Settles}
-use Rattle.bus.specs.declared.request.Action.TheVariants.{Write}
 use Rattle.bus.specs.declared.request.Answer.{Answer}
 use Rattle.bus.specs.declared.request.Request.{Request}
 use Rattle.bus.specs.declared.request.Width.TheVariants.{Word}
@@ -30,7 +30,7 @@ pub data Stage (S : Type 0) : Type 0 where
 
 -- a load writes the word
 abbrev pub store : ℕ → ℕ → Request
-store address word = record { address = address; action = Write Word word }
+store address word = writing Word address word
 
 -- a refusal of the bus goes up as a load's fault, with its address, and that as the line's
 abbrev pub load_end : Result ℕ BusFault → Result (Unit {0}) LoadFault
@@ -41,18 +41,14 @@ abbrev pub loaded : Result (Unit {0}) LoadFault → Result Reply JobFault
 loaded (Ok u) = Ok reply.Loaded
 loaded (Err f) = Err (fault.Load f)
 
--- how a lines call, a run and a show end
-abbrev pub lined : Result (Unit {0}) Denial → Result Reply JobFault
-lined (Ok u) = Ok reply.Set
-lined (Err d) = Err (fault.Core d)
+-- what a call of the core gives is put into the line's reply, and a denial goes up as the line's
+abbrev pub called : {A : Type 0} → (A → Reply) → Result A Denial → Result Reply JobFault
+called put (Ok a) = Ok (put a)
+called put (Err d) = Err (fault.Core d)
 
-abbrev pub ran : Result Report Denial → Result Reply JobFault
-ran (Ok n) = Ok (reply.Ran (record { cycles = n.cycles; frozen = n.frozen; boundaries = n.boundaries }))
-ran (Err d) = Err (fault.Core d)
-
-abbrev pub shown : ℕ → Result ℕ Denial → Result Reply JobFault
-shown n (Ok w) = Ok (reply.Shown n w)
-shown n (Err d) = Err (fault.Core d)
+-- a run's reply has the counts of its report
+abbrev pub counted : Report → Reply
+counted n = reply.Ran (record { cycles = n.cycles; frozen = n.frozen; boundaries = n.boundaries })
 
 module _ {S : Type 0} (means : S → Meaning) (steps : S → Request → Answer → S → Type 0) where
   -- an order before the start
@@ -67,9 +63,9 @@ module _ {S : Type 0} (means : S → Meaning) (steps : S → Request → Answer 
   abbrev pub LateObeys : (Machine S → Type 0) → Machine S → Order → Result Reply JobFault → Machine S → Type 0
   LateObeys says c (order.Load address word) r d = (r ≡ Err fault.AfterStart) × (d ≡ c)
   LateObeys says c order.Start r d = (r ≡ Err fault.AfterStart) × (d ≡ c)
-  LateObeys says c (order.Lines n) r d = (r ≡ lined (lines_reply n)) × (d ≡ lines_set n c)
-  LateObeys says c (order.Run n) r d = (q : Result Report Denial) × Runs steps says n c q d × (r ≡ ran q)
-  LateObeys says c (order.Show n) r d = (r ≡ shown n (register_reply n c.state)) × (d ≡ c)
+  LateObeys says c (order.Lines n) r d = (r ≡ called (λ u. reply.Set) (lines_reply n)) × (d ≡ lines_set n c)
+  LateObeys says c (order.Run n) r d = (q : Result Report Denial) × Runs steps says n c q d × (r ≡ called counted q)
+  LateObeys says c (order.Show n) r d = (r ≡ called (reply.Shown n) (register_reply n c.state)) × (d ≡ c)
 
   -- an order; what is said of a core goes by the pile that it was built on
   abbrev pub Obeys : (S → Machine S → Type 0) → Stage S → Order → Result Reply JobFault → Stage S → Type 0

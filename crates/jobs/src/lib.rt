@@ -2,5 +2,6 @@
 
 #![tactic(auto)]
 
+mod cut;
 pub mod job;
 pub mod station;

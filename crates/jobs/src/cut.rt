@@ -1,0 +1,22 @@
+//! A job, cut into its lines.
+
+ghost use Rattle.std.specs.Iterator.{YieldsFirstRef, item_count};
+ghost use Rattle.jobs.specs.Job.{lines_of};
+
+/// The lines that are still to come of a job.
+#[derive(Drop)]
+pub struct Lines<'a>(pub &'a [u8]);
+
+impl<'a> Iterator for Lines<'a> {
+    type Item = &'a [u8];
+
+    ghost next_gives = { YieldsFirstRef (λ s. lines_of s.0.now) };
+
+    ghost remaining = { item_count (λ s. lines_of s.0.now) };
+
+    fn next(&mut self) -> Option<&'a [u8]> {
+        let line = self.0.split_inclusive(|byte| *byte == b'\n').next()?;
+        self.0 = &self.0[line.len()..];
+        Some(line.strip_suffix(b"\n").unwrap_or(line))
+    }
+}
