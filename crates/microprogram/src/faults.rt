@@ -32,7 +32,7 @@ impl Evidence {
         self.in_user_mode() && self.res / 0x8000_0000 % 2 == 1
     }
 
-    /// Whether the result is no address of an access of so many bytes.
+    /// An address that is no multiple of the size, or that is barred.
     fn is_misplaced(self, size: u32) -> bool
         ensures { result ≡ misplaced size self.sr self.res }
     {

@@ -1,8 +1,7 @@
 -- The operation box, in arithmetic on numbers. Assumes nothing.
 use Rattle.std.specs.Prelude.{ℕ, ◌+◌, ◌-◌, ◌*◌, ◌/◌, ◌%◌, ◌^◌, Bool, false, cond, not, ℤ, pos, ◌+ℤ◌, ◌-ℤ◌, ◌*ℤ◌, ◌==◌, bit_and, bit_or, bit_xor, int_div, int_lt, nat_lt, unsigned_abs}
 use Rattle.std.specs.Int.Signed.{mag, shr_z}
-use Rattle.std.proofs.Common.{to_z}
-use Rattle.std.specs.Int.{int_rem_euclid, w32}
+use Rattle.std.specs.Int.{cast_signed, int_rem_euclid, w32}
 use Rattle.rows.specs.declared.operation.Operation.{Operation}
 use Rattle.rows.specs.declared.operation.Operation.TheVariants.{
   Sum,
@@ -28,7 +27,7 @@ use Rattle.rows.specs.declared.operation.Operation.TheVariants.{
 
 -- the integer that a word stands for in two's complement: from 2 ^ 31 up it is 2 ^ 32 less
 abbrev pub signed : ℕ → ℤ
-signed x = to_z w32 x
+signed x = cast_signed w32 x
 
 -- the number from 0 to m - 1 that differs from an integer by a multiple of m
 abbrev pub residue : ℤ → ℕ → ℕ
