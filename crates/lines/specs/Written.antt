@@ -1,6 +1,8 @@
 -- The bytes of a reply. Assumes nothing.
 use Rattle.std.specs.Prelude.{ℕ, zero, suc, ◌/◌, ◌%◌, ◌^◌, List, [], ◌∷◌, ◌++◌}
 use Rattle.lines.specs.Digit.{byte_of}
+use Rattle.lines.specs.declared.reply.Counts.{Counts}
+use Rattle.lines.specs.declared.reply.Denied as denied
 use Rattle.lines.specs.declared.reply.Reply.{Reply}
 use Rattle.lines.specs.declared.reply.Reply.TheVariants.{Loaded, Started, Set, Ran, Shown, Denied}
 
@@ -13,14 +15,21 @@ digits (suc n) v = byte_of (v / 16 ^ n % 16) ∷ digits n v
 abbrev pub Field : Type 0
 Field = ℕ × ℕ
 
+-- the fields of the counts, and of a denial
+abbrev pub fields_of_counts : Counts → List Field
+fields_of_counts n = (16, n.cycles) ∷ (16, n.frozen) ∷ (16, n.boundaries) ∷ []
+
+abbrev pub fields_of_denial : denied.Denied → List Field
+fields_of_denial d = (2, d.number) ∷ (8, d.line) ∷ (8, d.address) ∷ []
+
 -- the fields of a reply: its kind, and what it tells; FF is a denial
 abbrev pub fields_in : Reply → List Field
 fields_in Loaded = (2, 0x10) ∷ []
 fields_in Started = (2, 0x20) ∷ []
 fields_in Set = (2, 0x30) ∷ []
-fields_in (Ran n) = (2, 0x40) ∷ (16, n.cycles) ∷ (16, n.frozen) ∷ (16, n.boundaries) ∷ []
+fields_in (Ran n) = (2, 0x40) ∷ fields_of_counts n
 fields_in (Shown r w) = (2, 0x50) ∷ (2, r) ∷ (8, w) ∷ []
-fields_in (Denied d) = (2, 0xFF) ∷ (2, d.number) ∷ (8, d.line) ∷ (8, d.address) ∷ []
+fields_in (Denied d) = (2, 0xFF) ∷ fields_of_denial d
 
 -- fields parted by single spaces
 abbrev pub parted : List Field → List ℕ
