@@ -51,8 +51,8 @@ pub fn run<B: Bus + Drop>(heap: Global, pile: B, job: &[u8]) -> Result<Vec<u8>, 
     let mut station = Station::Loading(pile);
     let mut output = Vec::new(heap);
     for (number, line) in (1..).zip(Lines(job)) {
-        let (next, reply) = station.heed(number, line);
-        station = next;
+        let reply;
+        (station, reply) = station.heed(number, line);
         output.extend_from_slice(&write(heap, reply)?)?;
     }
     Ok(output)

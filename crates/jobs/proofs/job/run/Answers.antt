@@ -19,8 +19,8 @@ pub loop-number-preserved : goal.loop-number-preserved
 loop-number-preserved g c =
     let w = c.loop-number.invariant in
     let turn = c.in-Some.ensures.steps in
-    let done = c.heed-next.ensures w.start w.history in
-    works_more g.B.Bus.keeps c.args.pile c.args.job.now c.loop-number.number-iterator.a.start c.in-Some.number c.next.new.self.a.start c.in-Some.line.now (lines_of c.loop-number.number-iterator.b.0.now) (lines_of c.next.new.self.b.0.now) (vec_items c.loop-number.output) _ c.loop-number.station c.heed-next.result.0 c.heed-next.result.1 w done.0 done.1
+    let done = c.heed.ensures w.start w.history in
+    works_more g.B.Bus.keeps c.args.pile c.args.job.now c.loop-number.number-iterator.a.start c.in-Some.number c.next.new.self.a.start c.in-Some.line.now (lines_of c.loop-number.number-iterator.b.0.now) (lines_of c.next.new.self.b.0.now) (vec_items c.loop-number.output) _ c.loop-number.station c.heed.result.0 c.heed.result.1 w done.0 done.1
     turn.0.0
     turn.0.1
     turn.1
@@ -32,7 +32,7 @@ returns g c =
     let w = c.loop-number.invariant in
     let end = stage w.start w.history c.loop-number.station in
     let none : lines_of c.loop-number.number-iterator.b.0.now ≡ [] = elim c.in-None.ensures.steps [ inl e ↦ absurd (omega (arith, e.1.0, w.few)) | inr e ↦ e.1.0 ] in
-    let short : ltb 65536 (length c.args.job.now) ≡ false = le-ltb 65536 (length c.args.job.now) c.if-job-gt-LONGEST.false in
+    let short : ltb 65536 (length c.args.job.now) ≡ false = le-ltb 65536 (length c.args.job.now) (omega arith) in
     let works = w.goes_on [] end (subst (λ ls. Works g.B.Bus.means g.B.Bus.steps (Holds g.B.Bus.means g.B.Bus.steps) end c.loop-number.number-iterator.a.start ls [] end) (sym none) (refl, refl)) in
     subst (λ t. DoneIf g.B.Bus.means g.B.Bus.steps t c.args.pile c.args.job.now (vec_items c.loop-number.output)) (sym short)
     (w.replies, end, subst (λ rs. Works g.B.Bus.means g.B.Bus.steps (Holds g.B.Bus.means g.B.Bus.steps) (loading c.args.pile) 1 (lines_of c.args.job.now) rs end) (append-nil w.replies) works, w.bytes)
