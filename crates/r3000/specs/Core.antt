@@ -3,15 +3,14 @@ use Rattle.std.specs.Prelude.{ℕ, List, [], ◌∷◌, ◌++◌}
 use Rattle.microprogram.specs.Cycle.{State, seen}
 use Rattle.microprogram.specs.Word.{causes}
 use Rattle.r3000.specs.Machine.{History, Machine}
-use Rattle.microprogram.specs.declared.chip.Chip.{Chip}
 use Rattle.r3000.specs.declared.cpu.Core.{Core}
-use Rattle.r3000.specs.declared.counts.Counts.{Counts}
+use Rattle.r3000.specs.declared.processor.Processor.{Processor}
 
-abbrev pub made : {B : Type 0} → History → Chip → ℕ → Counts → B → Machine B
-made h chip lines counts pile = record { state = seen chip; lines = lines; report = counts.report; pile = pile; history = h }
+abbrev pub made : {B : Type 0} → History → Processor → B → Machine B
+made h p pile = record { state = seen p.chip; lines = p.lines; report = p.counts.report; pile = pile; history = h }
 
 abbrev pub machine : {B : Type 0} → History → Core B → Machine B
-machine h c = made h c.chip c.lines c.counts c.pile
+machine h c = made h c.processor c.pile
 
 -- whatever a core has behind it, something happens to it, and it then has that behind it too
 abbrev pub Happens : {B : Type 0} → (Machine B → Machine B → Type 0) → Core B → Core B → Type 0

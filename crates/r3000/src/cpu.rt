@@ -6,34 +6,27 @@ ghost use Rattle.r3000.specs.Core.{Happens, Anything, machine, numbered};
 ghost use Rattle.r3000.specs.Machine.{History, built, fresh};
 ghost use Rattle.microprogram.specs.Cycle.{seen};
 
-use super::counts::Counts;
-use super::cycle::cycle;
 use super::denial::Denial;
+use super::processor::Processor;
 use super::report::{Clocked, Report};
 use bus::memory::Bus;
-use microprogram::chip::Chip;
 use microprogram::ledger::Entry;
 use microprogram::operands::read_cr;
 
 /// A processor on a pile, which is its own from power-up on.
 #[derive(Drop)]
 pub struct Core<B> {
-    chip: Chip,
-    /// The lines as they stand now.
-    lines: u8,
-    counts: Counts,
+    processor: Processor,
     pile: B,
 }
 
 impl<B: Bus> Core<B> {
-    /// Power-up: registers, lines, ledger and counts zero, no flag, row 0.
+    /// Power-up on a pile.
     pub fn new(pile: B) -> Core<B>
         ensures { machine fresh result ≡ built pile }
     {
         Core {
-            chip: Chip::new(),
-            lines: 0,
-            counts: Counts::new(),
+            processor: Processor::new(),
             pile,
         }
     }
@@ -42,11 +35,11 @@ impl<B: Bus> Core<B> {
     pub fn clock(&mut self) -> Result<Clocked, Denial>
         ensures { Happens (λ c d. Clocks B.Bus.steps c result d) self.old self.new }
     {
-        self.counts.check_cycles(1)?;
-        let frozen = cycle(&mut self.chip, self.lines, &mut self.counts, &mut self.pile);
+        self.processor.counts.check_cycles(1)?;
+        let frozen = self.processor.cycle(&mut self.pile);
         Ok(Clocked {
             frozen,
-            report: self.counts.report,
+            report: self.processor.counts.report,
         })
     }
 
@@ -54,15 +47,13 @@ impl<B: Bus> Core<B> {
     pub fn run(&mut self, count: u32) -> Result<Report, Denial>
         ensures { Happens (λ c d. Runs B.Bus.steps Anything count c result d) self.old self.new }
     {
-        self.counts.check_run(count)?;
-        let mut chip = self.chip;
-        let mut counts = self.counts;
+        self.processor.counts.check_run(count)?;
+        let mut processor = self.processor;
         for _ in 0..count {
-            cycle(&mut chip, self.lines, &mut counts, &mut self.pile);
+            processor.cycle(&mut self.pile);
         }
-        self.chip = chip;
-        self.counts = counts;
-        Ok(counts.report)
+        self.processor = processor;
+        Ok(processor.counts.report)
     }
 
     /// Sets the lines: bits 0–5 are IT0–IT5, bit 6 is RST.
@@ -73,22 +64,23 @@ impl<B: Bus> Core<B> {
         if lines > 127 {
             return Err(Denial::Range);
         }
-        self.lines = lines;
+        self.processor.lines = lines;
         Ok(())
     }
 
     /// All registers: 0–31, then PC, HI, LO, SR, CR, EPC, BAR, AD, IR and DT.
     pub fn snapshot(&self) -> [u32; 42]
-        ensures { result ≡ numbered (seen self.now.chip) }
+        ensures { result ≡ numbered (seen self.now.processor.chip) }
     {
-        let registers = self.chip.registers;
+        let chip = &self.processor.chip;
+        let registers = &chip.registers;
         let mut all = [0; 42];
         all[32..].copy_from_slice(&[
             registers.pc,
             registers.hi,
             registers.lo,
             registers.sr,
-            read_cr(self.chip.lines, registers.cr),
+            read_cr(chip.lines, registers.cr),
             registers.epc,
             registers.bar,
             registers.ad,
@@ -101,7 +93,7 @@ impl<B: Bus> Core<B> {
 
     /// One register, by its number in the snapshot.
     pub fn register(&self, number: u8) -> Result<u32, Denial>
-        ensures { result ≡ register_reply number (seen self.now.chip) }
+        ensures { result ≡ register_reply number (seen self.now.processor.chip) }
     {
         if number > 41 {
             return Err(Denial::Range);
@@ -111,12 +103,12 @@ impl<B: Bus> Core<B> {
 
     /// The ledger's entry of a code, 0–15.
     pub fn ledger(&self, code: u8) -> Result<Entry, Denial>
-        ensures { result ≡ ledger_reply code (seen self.now.chip) }
+        ensures { result ≡ ledger_reply code (seen self.now.processor.chip) }
     {
         if code > 15 {
             return Err(Denial::Range);
         }
-        Ok(self.chip.ledger.entries[usize::from(code)])
+        Ok(self.processor.chip.ledger.entries[usize::from(code)])
     }
 
     /// The byte at an address, unless its word is refused to reads.

@@ -6,10 +6,9 @@ ghost use Rattle.r3000.specs.Counts.{limit};
 ghost use Rattle.r3000.specs.Cycle.{Asks, Cycle, freezes};
 ghost use Rattle.r3000.specs.Machine.{History};
 
-use super::counts::Counts;
+use super::processor::Processor;
 use bus::memory::Bus;
 use bus::request::{Answer, Request};
-use microprogram::chip::Chip;
 use microprogram::sequencing::ends;
 use rows::rows::row;
 
@@ -27,19 +26,21 @@ fn freezes(answer: Option<Answer>) -> bool
     answer == Some(Answer::Wait)
 }
 
-/// One cycle; tells whether it was frozen.
-pub(crate) fn cycle<B: Bus>(chip: &mut Chip, lines: u8, counts: &mut Counts, pile: &mut B) -> bool
-    requires { counts.old.report.cycles < limit }
-    ensures { (h : History) → (k : History) × Cycle B.Bus.steps (made h chip.old lines counts.old pile.old) result (made k chip.new lines counts.new pile.new) }
-{
-    let row = row(chip.row);
-    let work = chip.work(row);
-    let request = chip.request(row.transfer, work.0);
-    let answer = ask(pile, request);
-    let frozen = freezes(answer);
-    if !frozen {
-        chip.advance(row, lines, work, answer);
+impl Processor {
+    /// One cycle on a pile; tells whether it was frozen.
+    pub(crate) fn cycle<B: Bus>(&mut self, pile: &mut B) -> bool
+        requires { self.old.counts.report.cycles < limit }
+        ensures { (h : History) → (k : History) × Cycle B.Bus.steps (made h self.old pile.old) result (made k self.new pile.new) }
+    {
+        let row = row(self.chip.row);
+        let work = self.chip.work(row);
+        let request = self.chip.request(row.transfer, work.0);
+        let answer = ask(pile, request);
+        let frozen = freezes(answer);
+        if !frozen {
+            self.chip.advance(row, self.lines, work, answer);
+        }
+        self.counts.count(frozen, ends(row.sequencing));
+        frozen
     }
-    counts.count(frozen, ends(row.sequencing));
-    frozen
 }

@@ -9,4 +9,5 @@ pub mod cpu;
 mod cycle;
 pub mod denial;
 pub mod perform;
+mod processor;
 pub mod report;

@@ -1,32 +1,44 @@
-use Rattle.std.proofs.Common.{◌≡◌, ◌+◌, refl, subst, add-one, arith}
-use Rattle.r3000.specs.Calls.{check_run}
-use Rattle.r3000.specs.Core.{Anything, machine, made}
+use Rattle.std.proofs.Common.{rules, ◌≡◌, ℕ, zero, suc, ◌+◌, Bool, true, false, refl, ap, add-one, arith}
+use Rattle.bus.specs.declared.request.Answer.{Answer}
+use Rattle.bus.specs.declared.request.Request.{Request}
+use Rattle.microprogram.specs.Cycle.{ends}
+use Rattle.r3000.specs.Core.{Anything, machine}
+use Rattle.r3000.specs.Counts.{counted}
 use Rattle.r3000.specs.Cycle.{Cycles}
-use Rattle.r3000.specs.Machine.{History, fresh}
-use Rattle.r3000.proofs.Made.{as_many, denied, run_granted, undenied}
+use Rattle.r3000.specs.Machine.{Machine, fresh, hand}
+use Rattle.r3000.specs.declared.report.Report.{Report}
 use Rattle.r3000.proofs.cpu.Core.run.Goals as goal
 
+-- so many cycles are counted as so many
+one_more : (frozen last : Bool) (n : Report) → (counted frozen last n).cycles ≡ n.cycles + 1
+one_more true last n = refl
+one_more false true n = refl
+one_more false false n = refl
+
+as_many : {S : Type 0} (steps : S → Request → Answer → S → Type 0) (says : Machine S → Type 0) (n : ℕ) (c d : Machine S) → Cycles steps says n c d → d.report.cycles ≡ c.report.cycles + n
+as_many steps says zero c d h = omega (arith, ap (λ m. m.report.cycles) h)
+as_many steps says (suc n) c d h =
+    omega (arith, as_many steps says n c h.0 h.2, ap (λ m. m.cycles) h.3.report, one_more h.1 (ends (hand h.0.state).sequencing) h.0.report)
+
 pub returns-in_err-check_run : goal.returns-in_err-check_run
-returns-in_err-check_run g c h =
-    (h, denied (check_run c.args.count c.args.self.now.counts.report) c.in_err-check_run.field-0.0 (machine h c.args.self.now) _ _ c.in_err-check_run.ensures c.from_residual.ensures.1)
+returns-in_err-check_run g c h = (h, rw (← c.in_err-check_run.ensures) (search rules, refl))
 
 pub loop-init : goal.loop-init
 loop-init g c h = (h, refl)
 
 pub cycle-requires : goal.cycle-requires
 cycle-requires g c =
-    let so_far : c.loop.counts.report.cycles ≡ c.args.self.now.counts.report.cycles + c.loop.counter =
-    as_many g.B.Bus.steps Anything c.loop.counter (machine fresh c.args.self.now) _ (c.loop.invariant fresh).1
-    in
-    omega (arith, run_granted c.args.count c.args.self.now.counts.report _ c.in_ok-check_run.ensures)
+    let so_far = as_many g.B.Bus.steps Anything c.loop.counter (machine fresh c.args.self.now) _ (c.loop.invariant fresh).1 in
+    grind arith
 
 pub loop-preserved : goal.loop-preserved
 loop-preserved g c h =
-    let so_far : (k : History) × Cycles g.B.Bus.steps Anything c.loop.counter (machine h c.args.self.now) (made k c.loop.chip c.loop.self.lines c.loop.counts c.loop.self.pile) = c.loop.invariant h in
-    rw add-one ((c.cycle.ensures so_far.0).0, (_, c.cycle.result, so_far.1, (c.cycle.ensures so_far.0).1, tt))
+    let so_far = c.loop.invariant h in
+    let next = c.cycle.ensures so_far.0 in
+    rw add-one (next.0, (_, c.cycle.result, so_far.1, next.1, tt))
 
 pub returns : goal.returns
 returns g c h =
+    let so_far = c.loop.invariant h in
     let all : c.loop.counter ≡ c.args.count = omega arith in
-    let so_far : (k : History) × Cycles g.B.Bus.steps Anything c.loop.counter (machine h c.args.self.now) (made k c.loop.chip c.loop.self.lines c.loop.counts c.loop.self.pile) = c.loop.invariant h in
-    (so_far.0, undenied (check_run c.args.count c.args.self.now.counts.report) (machine h c.args.self.now) _ _ _ _ c.in_ok-check_run.ensures (subst (λ n. Cycles g.B.Bus.steps Anything n (machine h c.args.self.now) (made so_far.0 c.loop.chip c.loop.self.lines c.loop.counts c.loop.self.pile)) all so_far.1, refl))
+    (so_far.0, rw (← c.in_ok-check_run.ensures) (rw all at so_far.1, refl))

@@ -4,4 +4,4 @@ use Rattle.r3000.specs.Machine.{History}
 use Rattle.r3000.proofs.cpu.Core.run.Given as goal
 
 abbrev pub invariant-loop : goal.invariant-loop
-invariant-loop g l = (h : History) → (k : History) × Cycles g.B.Bus.steps Anything l.counter (machine h l.initial.self) (made k l.chip l.self.lines l.counts l.self.pile)
+invariant-loop g l = (h : History) → (k : History) × Cycles g.B.Bus.steps Anything l.counter (machine h l.initial.self) (made k l.processor l.self.pile)
