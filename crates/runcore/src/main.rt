@@ -14,7 +14,7 @@ use pile::job;
 use r3000::perform::perform;
 
 /// Writes the words of a section into the pile, waiting out each.
-fn load<B: Bus>(rt: &HostRuntime, pile: &mut B, section: Section) -> anyhow::Result<()> {
+fn load<B: Bus>(rt: &impl Print, pile: &mut B, section: Section<'_>) -> anyhow::Result<()> {
     for (address, word) in (section.base..).step_by(4).zip(section.words) {
         let settled = settle(pile, Request::write(Width::Word, address, *word));
         transcript::loaded(rt, address, *word, settled)?;
@@ -23,7 +23,7 @@ fn load<B: Bus>(rt: &HostRuntime, pile: &mut B, section: Section) -> anyhow::Res
 }
 
 /// Loads the firmware, starts a core on the pile, and performs the script.
-fn run(rt: &HostRuntime) -> anyhow::Result<()> {
+fn run(rt: &(impl Print + AllocGlobal)) -> anyhow::Result<()> {
     let heap = rt.alloc();
     let mut low = vec![in heap; 0u8; job::LOW_LENGTH]?;
     let mut high = vec![in heap; 0u8; job::HIGH_LENGTH]?;

@@ -32,12 +32,7 @@ const SCRIPT: [Call; 21] = [
 /// The script with a snapshot before it and after each of its calls, and the whole ledger at the end.
 pub(crate) fn calls(heap: Global) -> Result<Vec<Call>, AllocError> {
     let mut calls = vec![in heap; Snapshot]?;
-    for call in SCRIPT {
-        calls.push(call)?;
-        calls.push(Snapshot)?;
-    }
-    for code in 0..16 {
-        calls.push(Ledger(code))?;
-    }
+    calls.extend(SCRIPT.into_iter().flat_map(|call| [call, Snapshot]))?;
+    calls.extend((0..16).map(Ledger))?;
     Ok(calls)
 }

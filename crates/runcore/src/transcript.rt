@@ -77,7 +77,7 @@ impl fmt::Display for Answered {
 
 /// A word of the firmware that was put into the pile.
 pub(crate) fn loaded(
-    rt: &HostRuntime,
+    rt: &impl Print,
     address: u32,
     word: u32,
     settled: Settled,
@@ -90,18 +90,25 @@ pub(crate) fn loaded(
     Ok(())
 }
 
-/// The registers that differ between two snapshots.
-fn changed(rt: &HostRuntime, before: &[u32; 42], after: &[u32; 42]) -> anyhow::Result<()> {
-    for number in 0..42 {
-        let word = after[number];
-        if word == before[number] {
-            continue;
+/// A register's name: the general ones have numbers.
+#[derive(Drop)]
+struct Name(usize);
+
+impl fmt::Display for Name {
+    fn fmt<W: fmt::Write>(&self, f: &mut fmt::Formatter<W>) -> fmt::Result {
+        let number = self.0;
+        match SPECIAL.get(number.wrapping_sub(32)) {
+            Some(name) => f.write_str(name),
+            None => write!(f, "${number}"),
         }
-        if number < 32 {
-            println!(rt; "    ${number} = {word:08X}")?;
-        } else {
-            let name = SPECIAL[number - 32];
-            println!(rt; "    {name} = {word:08X}")?;
+    }
+}
+
+/// The registers that differ between two snapshots.
+fn changed(rt: &impl Print, before: &[u32; 42], after: &[u32; 42]) -> anyhow::Result<()> {
+    for (number, (old, new)) in before.iter().zip(after).enumerate() {
+        if old != new {
+            println!(rt; "    {} = {new:08X}", Name(number))?;
         }
     }
     Ok(())
@@ -109,7 +116,7 @@ fn changed(rt: &HostRuntime, before: &[u32; 42], after: &[u32; 42]) -> anyhow::R
 
 /// Every call with its reply, and the registers that it changed.
 pub(crate) fn performed(
-    rt: &HostRuntime,
+    rt: &impl Print,
     calls: &[Call],
     replies: &[Result<Reply, Denial>],
 ) -> anyhow::Result<()> {
