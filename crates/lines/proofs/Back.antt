@@ -1,13 +1,13 @@
 -- Reading what was written. Assumes nothing.
-use Rattle.std.proofs.Common.{◌≡◌, ℕ, zero, suc, ◌+◌, ◌-◌, ◌*◌, ◌/◌, ◌%◌, ◌^◌, ◌<◌, ◌≤◌, Bool, true, false, cond, eqb, ltb, List, [], ◌∷◌, ◌++◌, map, length, Some, sym, refl, ap, ◌∙◌, ap₂, mod-eq_of_lt, arith}
+use Rattle.std.proofs.Common.{◌≡◌, ℕ, zero, suc, ◌+◌, ◌*◌, ◌/◌, ◌%◌, ◌^◌, ◌<◌, false, eqb, List, [], ◌∷◌, ◌++◌, map, length, Some, sym, refl, ap, ◌∙◌, ap₂, mod-eq_of_lt, arith}
 use native.Mathlib.Nat.{pow-succ'}
+use Rattle.std.proofs.Math.Nat.{one-le-pow}
+use Rattle.std.proofs.lemmas.Bool.Decides.{nat_tests}
 use lib.Arith.{mod-mul}
-use Rattle.std.proofs.lemmas.Bool.{and_from, and_right, cond-false, cond-true, le-leb, lt-leb, ltb-false, ltb-true, ne_eqb}
 use Rattle.std.proofs.lemmas.List.Elements.{All-cons}
 use Rattle.std.proofs.lemmas.List.Splits.{slice_split_at, slice_split_none}
 use Rattle.std.specs.List.{All}
-use Rattle.std.specs.Option.{unwrap_or}
-use Rattle.lines.specs.Digit.{byte_of, digit_of}
+use Rattle.lines.specs.Digit.{byte_of}
 use Rattle.lines.specs.Line.{digit, fields_of, value_of}
 use Rattle.lines.specs.Reread.{RoundTrip, reread_fields}
 use Rattle.lines.specs.Written.{Field, digits, parted}
@@ -15,24 +15,10 @@ use Rattle.lines.specs.declared.reply.Reply.TheVariants.{Loaded, Started, Set, R
 
 -- a digit's byte is no space, and has the digit's value
 no_space : (d : ℕ) → eqb (byte_of d) 32 ≡ false
-no_space d = by (ltb d 10) refl
-  where
-    by : (t : Bool) → ltb d 10 ≡ t → eqb (cond t (48 + d) (55 + d)) 32 ≡ false
-    by true e = ne_eqb _ 32 (λ z. omega arith)
-    by false e = ne_eqb _ 32 (λ z. omega (arith, ltb-false d 10 e))
-
-figure : (b : ℕ) → 48 ≤ b → b ≤ 57 → digit_of b ≡ Some (b - 48)
-figure b h k = cond-true _ _ _ (and_from _ _ (le-leb 48 b h) (le-leb b 57 k))
-
-letter : (b : ℕ) → 65 ≤ b → b ≤ 70 → digit_of b ≡ Some (b - 55)
-letter b h k = cond-false _ _ _ (and_right _ _ (lt-leb b 57 (omega arith))) ∙ cond-true _ _ _ (and_from _ _ (le-leb 65 b h) (le-leb b 70 k))
+no_space d = grind (arith, nat_tests)
 
 digit_back : (d : ℕ) → d < 16 → digit (byte_of d) ≡ d
-digit_back d h = by (ltb d 10) refl
-  where
-    by : (t : Bool) → ltb d 10 ≡ t → digit (cond t (48 + d) (55 + d)) ≡ d
-    by true e = let small : d < 10 = ltb-true d 10 e in ap (λ o. unwrap_or o 0) (figure (48 + d) (omega arith) (omega arith)) ∙ omega arith
-    by false e = let big : 10 ≤ d = ltb-false d 10 e in ap (λ o. unwrap_or o 0) (letter (55 + d) (omega arith) (omega arith)) ∙ omega arith
+digit_back d h = grind (arith, nat_tests)
 
 long : (n v : ℕ) → length (digits n v) ≡ n
 long zero v = refl
@@ -43,11 +29,7 @@ value_back zero v = omega arith
 value_back (suc n) v =
     ap₂ (λ d k. d * 16 ^ k + value_of (digits n v)) (digit_back (v / 16 ^ n % 16) (omega arith)) (long n v)
     ∙ ap (λ x. v / 16 ^ n % 16 * 16 ^ n + x) (value_back n v)
-    ∙ sym (ap (λ k. v % k) (pow-succ' 16 n) ∙ mod-mul v {m = 16} {c = 16 ^ n} (omega arith) (sixteen n))
-  where
-    sixteen : (n : ℕ) → 0 < 16 ^ n
-    sixteen zero = omega arith
-    sixteen (suc n) = omega (arith, sixteen n, pow-succ' 16 n)
+    ∙ sym (ap (λ k. v % k) (pow-succ' 16 n) ∙ mod-mul v {m = 16} {c = 16 ^ n} (omega arith) (one-le-pow n 16 (omega arith)))
 
 -- digits are a field, and a space behind them ends it
 no_spaces : (n v : ℕ) → All (λ b. eqb b 32 ≡ false) (digits n v)

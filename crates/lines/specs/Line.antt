@@ -14,6 +14,7 @@ use Rattle.lines.specs.declared.order.Order.TheVariants as order
 abbrev pub fields_of : List ℕ → List (List ℕ)
 fields_of line = slice_split (λ b. b == 32) line
 
+-- whether a byte is a digit
 abbrev pub is_digit : ℕ → Bool
 is_digit b = is_some (digit_of b)
 
@@ -21,10 +22,11 @@ is_digit b = is_some (digit_of b)
 abbrev pub in_form : List ℕ → Bool
 in_form f = nat_lt 0 (length f) && list_all is_digit f
 
--- the value of a field: its digits, the first one highest
+-- the value of a digit
 abbrev pub digit : ℕ → ℕ
 digit b = unwrap_or (digit_of b) 0
 
+-- the value of a field: its digits, the first one highest
 abbrev pub value_of : List ℕ → ℕ
 value_of [] = 0
 value_of (b ∷ bs) = digit b * 16 ^ length bs + value_of bs

@@ -9,9 +9,11 @@ use Rattle.lines.specs.declared.reply.Reply.TheVariants.{Loaded, Started, Set, R
 abbrev pub where_fit : List ℕ → List (List ℕ) → Reply → Option Reply
 where_fit ws fs r = cond (fits ws fs) (Some r) None
 
+-- the value of a field behind the kind, the first being field 0
 abbrev pub value : List (List ℕ) → ℕ → ℕ
 value fs n = slice_index (map value_of fs) n
 
+-- the reply of a kind, by its two digits, with the fields behind it
 abbrev pub reread_as : ℕ → List (List ℕ) → Option Reply
 reread_as k fs =
     cond (k == 0x10) (where_fit [] fs Loaded) (cond (k == 0x20) (where_fit [] fs Started) (cond (k == 0x30) (where_fit [] fs Set)
@@ -19,6 +21,7 @@ reread_as k fs =
     (cond (k == 0x50) (where_fit (2 ∷ 8 ∷ []) fs (Shown (value fs 0) (value fs 1)))
     (cond (k == 0xFF) (where_fit (2 ∷ 8 ∷ 8 ∷ []) fs (Denied (record { number = value fs 0; line = value fs 1; address = value fs 2 }))) None)))))
 
+-- the first field names the kind; every line has one
 abbrev pub reread_fields : List (List ℕ) → Option Reply
 reread_fields [] = None
 reread_fields (f ∷ fs) = cond (length f == 2) (reread_as (value_of f) fs) None

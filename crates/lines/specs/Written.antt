@@ -15,10 +15,11 @@ digits (suc n) v = byte_of (v / 16 ^ n % 16) ∷ digits n v
 abbrev pub Field : Type 0
 Field = ℕ × ℕ
 
--- the fields of the counts, and of a denial
+-- the fields that tell counts
 abbrev pub fields_of_counts : Counts → List Field
 fields_of_counts n = (16, n.cycles) ∷ (16, n.frozen) ∷ (16, n.boundaries) ∷ []
 
+-- the fields that tell a denial
 abbrev pub fields_of_denial : denied.Denied → List Field
 fields_of_denial d = (2, d.number) ∷ (8, d.line) ∷ (8, d.address) ∷ []
 
