@@ -6,9 +6,19 @@ use Rattle.r3000.specs.Machine.{History, Machine}
 use Rattle.r3000.specs.declared.cpu.Core.{Core}
 use Rattle.r3000.specs.declared.processor.Processor.{Processor}
 
+-- a core's registers, flag, row and ledger, as the rules see them
+abbrev pub state_of : {B : Type 0} → Core B → State
+state_of c = seen c.processor.chip
+
+-- the pile that a core owns
+abbrev pub pile_of : {B : Type 0} → Core B → B
+pile_of c = c.pile
+
+-- a processor on a pile, as the rules see it, with what it has behind it
 abbrev pub made : {B : Type 0} → History → Processor → B → Machine B
 made h p pile = record { state = seen p.chip; lines = p.lines; report = p.counts.report; pile = pile; history = h }
 
+-- a core, so seen
 abbrev pub machine : {B : Type 0} → History → Core B → Machine B
 machine h c = made h c.processor c.pile
 

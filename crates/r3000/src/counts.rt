@@ -1,9 +1,13 @@
 //! The counts inside a core.
 
-ghost use Rattle.std.specs.Prelude.{◌≤◌};
+ghost use Rattle.std.specs.Prelude.{◌≡◌, ◌<◌, ◌≤◌};
 ghost use Rattle.r3000.specs.Counts.{limit};
 
+use super::denial::Denial;
 use super::report::Report;
+
+/// The most cycles that a core makes.
+const LIMIT: u64 = 1 << 62;
 
 /// No count can pass the cycles, and the cycles cannot pass their limit.
 #[derive(Clone, Copy)]
@@ -13,4 +17,53 @@ pub struct Counts {
     ghost frozen: { report.frozen ≤ report.cycles },
     ghost boundaries: { report.boundaries ≤ report.cycles },
     ghost place: { report.place ≤ report.cycles },
+}
+
+impl Counts {
+    ghost use Rattle.r3000.specs.Calls.{check_cycles, check_run};
+    ghost use Rattle.r3000.specs.Counts.{counted, zeros};
+
+    pub(crate) fn new() -> Counts
+        ensures { result.report ≡ zeros }
+    {
+        Counts {
+            report: Report::default(),
+        }
+    }
+
+    /// Whether so many cycles more can be made.
+    pub(crate) fn check_cycles(&self, count: u32) -> Result<(), Denial>
+        ensures { result ≡ check_cycles count self.now.report }
+    {
+        if self.report.cycles + u64::from(count) > LIMIT {
+            return Err(Denial::Cycles);
+        }
+        Ok(())
+    }
+
+    /// Whether a run can have so many cycles.
+    pub(crate) fn check_run(&self, count: u32) -> Result<(), Denial>
+        ensures { result ≡ check_run count self.now.report }
+    {
+        if count == 0 || count > 65_535 {
+            return Err(Denial::Range);
+        }
+        self.check_cycles(count)
+    }
+
+    /// One cycle more, by whether it was frozen and whether its row ends a path.
+    pub(crate) fn count(&mut self, frozen: bool, last: bool)
+        requires { self.old.report.cycles < limit }
+        ensures { self.new.report ≡ counted frozen last self.old.report }
+    {
+        self.report.cycles += 1;
+        if frozen {
+            self.report.frozen += 1;
+        } else if last {
+            self.report.boundaries += 1;
+            self.report.place = 0;
+        } else {
+            self.report.place += 1;
+        }
+    }
 }

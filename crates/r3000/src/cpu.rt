@@ -2,9 +2,8 @@
 
 ghost use Rattle.std.specs.Prelude.{◌≡◌};
 ghost use Rattle.r3000.specs.Calls.{Clocks, Runs, ledger_reply, lines_reply, lines_set, look_reply, register_reply};
-ghost use Rattle.r3000.specs.Core.{Happens, Anything, machine, numbered};
+ghost use Rattle.r3000.specs.Core.{Happens, Anything, machine, numbered, pile_of, state_of};
 ghost use Rattle.r3000.specs.Machine.{History, built, fresh};
-ghost use Rattle.microprogram.specs.Cycle.{seen};
 
 use super::denial::Denial;
 use super::processor::Processor;
@@ -70,7 +69,7 @@ impl<B: Bus> Core<B> {
 
     /// All registers: 0–31, then PC, HI, LO, SR, CR, EPC, BAR, AD, IR and DT.
     pub fn snapshot(&self) -> [u32; 42]
-        ensures { result ≡ numbered (seen self.now.processor.chip) }
+        ensures { result ≡ numbered (state_of self.now) }
     {
         let chip = &self.processor.chip;
         let registers = &chip.registers;
@@ -93,7 +92,7 @@ impl<B: Bus> Core<B> {
 
     /// One register, by its number in the snapshot.
     pub fn register(&self, number: u8) -> Result<u32, Denial>
-        ensures { result ≡ register_reply number (seen self.now.processor.chip) }
+        ensures { result ≡ register_reply number (state_of self.now) }
     {
         if number > 41 {
             return Err(Denial::Range);
@@ -103,7 +102,7 @@ impl<B: Bus> Core<B> {
 
     /// The ledger's entry of a code, 0–15.
     pub fn ledger(&self, code: u8) -> Result<Entry, Denial>
-        ensures { result ≡ ledger_reply code (seen self.now.processor.chip) }
+        ensures { result ≡ ledger_reply code (state_of self.now) }
     {
         if code > 15 {
             return Err(Denial::Range);
@@ -113,7 +112,7 @@ impl<B: Bus> Core<B> {
 
     /// The byte at an address, unless its word is refused to reads.
     pub fn look(&self, address: u32) -> Result<u8, Denial>
-        ensures { result ≡ look_reply (B.Bus.means self.now.pile) address }
+        ensures { result ≡ look_reply (B.Bus.means (pile_of self.now)) address }
     {
         self.pile.look(address).ok_or(Denial::Refused)
     }

@@ -3,10 +3,8 @@
 #![tactic(auto)]
 
 pub mod call;
-mod counting;
 mod counts;
 pub mod cpu;
-mod cycle;
 pub mod denial;
 pub mod perform;
 mod processor;

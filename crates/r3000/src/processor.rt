@@ -1,11 +1,18 @@
-//! What works on a pile.
+//! A processor and its cycle.
 
-ghost use Rattle.std.specs.Prelude.{◌≡◌};
+ghost use Rattle.std.specs.Prelude.{◌≡◌, ◌<◌};
 ghost use Rattle.microprogram.specs.Cycle.{powered, seen};
-ghost use Rattle.r3000.specs.Counts.{zeros};
+ghost use Rattle.r3000.specs.Core.{made};
+ghost use Rattle.r3000.specs.Counts.{limit, zeros};
+ghost use Rattle.r3000.specs.Cycle.{Asks, Cycle};
+ghost use Rattle.r3000.specs.Machine.{History};
 
 use super::counts::Counts;
+use bus::memory::Bus;
+use bus::request::{Answer, Request};
 use microprogram::chip::Chip;
+use microprogram::sequencing::ends;
+use rows::rows::row;
 
 /// A core without its pile.
 #[derive(Clone, Copy)]
@@ -29,4 +36,28 @@ impl Processor {
             counts: Counts::new(),
         }
     }
+
+    /// One cycle on a pile; tells whether it was frozen, as it is exactly when the pile answers wait.
+    pub(crate) fn cycle<B: Bus>(&mut self, pile: &mut B) -> bool
+        requires { self.old.counts.report.cycles < limit }
+        ensures { (h : History) → (k : History) × Cycle B.Bus.steps (made h self.old pile.old) result (made k self.new pile.new) }
+    {
+        let row = row(self.chip.row);
+        let work = self.chip.work(row);
+        let request = self.chip.request(row.transfer, work.0);
+        let answer = ask(pile, request);
+        let frozen = answer == Some(Answer::Wait);
+        if !frozen {
+            self.chip.advance(row, self.lines, work, answer);
+        }
+        self.counts.count(frozen, ends(row.sequencing));
+        frozen
+    }
+}
+
+/// Asks the pile exactly where there is a request.
+fn ask<B: Bus>(pile: &mut B, request: Option<Request>) -> Option<Answer>
+    ensures { Asks B.Bus.steps pile.old request result pile.new }
+{
+    Some(pile.request(request?))
 }
