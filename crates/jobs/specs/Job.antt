@@ -29,6 +29,7 @@ lines_of (b ∷ bs) = cond (b == 10) ([] ∷ lines_of bs) (begins b (lines_of bs
 abbrev pub denial : ℕ → JobFault → Reply
 denial n f = reply.Denied (record { number = number_of f; line = n; address = address_of f })
 
+-- the reply to a line: its own, or that of its denial
 abbrev pub answered : ℕ → Result Reply JobFault → Reply
 answered n (Ok r) = r
 answered n (Err f) = denial n f
@@ -59,12 +60,13 @@ all_written (r ∷ rs) = written r ++ all_written rs
 abbrev pub Holds : {S : Type 0} → (S → Meaning) → (S → Request → Answer → S → Type 0) → S → Machine S → Type 0
 Holds means steps start c = Promised means steps start c
 
--- a whole job on a pile: one that is too long is denied as line 0, and nothing else is done; of another the lines are done one
--- after another, to some stage, and the output is their replies
+-- what is done with a job, by whether it is too long: then it is denied as line 0, and nothing else is done; else its lines are
+-- done one after another, to some stage, and the output is their replies
 abbrev pub DoneIf : {S : Type 0} → (S → Meaning) → (S → Request → Answer → S → Type 0) → Bool → S → List ℕ → List ℕ → Type 0
 DoneIf means steps true pile job output = output ≡ written (denial 0 fault.TooLong)
 DoneIf {S} means steps false pile job output =
     (replies : List Reply) × (end : Stage S) × Works means steps (Holds means steps) (loading pile) 1 (lines_of job) replies end × (output ≡ all_written replies)
 
+-- a whole job on a pile: one of more than 65,536 bytes is too long
 abbrev pub Done : {S : Type 0} → (S → Meaning) → (S → Request → Answer → S → Type 0) → S → List ℕ → List ℕ → Type 0
 Done means steps pile job output = DoneIf means steps (nat_lt 65536 (length job)) pile job output

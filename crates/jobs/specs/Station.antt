@@ -32,11 +32,12 @@ pub data Stage (S : Type 0) : Type 0 where
 abbrev pub store : ℕ → ℕ → Request
 store address word = writing Word address word
 
--- a refusal of the bus goes up as a load's fault, with its address, and that as the line's
+-- a refusal of the bus becomes a load's fault, with its address
 abbrev pub load_end : Result ℕ BusFault → Result (Unit {0}) LoadFault
 load_end (Ok w) = Ok tt
 load_end (Err f) = Err (record { refused = f })
 
+-- a load's fault goes up as the line's
 abbrev pub loaded : Result (Unit {0}) LoadFault → Result Reply JobFault
 loaded (Ok u) = Ok reply.Loaded
 loaded (Err f) = Err (fault.Load f)
