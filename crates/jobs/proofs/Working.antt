@@ -29,7 +29,7 @@ module _ {S : Type 0} {means : S → Meaning} {steps : S → Request → Answer 
   late s c d (order.Load a w) r reached h = (h, same keeps s c d h.1 reached)
   late s c d order.Start r reached h = (h, same keeps s c d h.1 reached)
   late s c d (order.Lines n) r reached h = (h, same keeps s (lines_set n c) d h.1 (sets keeps s n c reached))
-  late s c d (order.Run n) r reached h = let all = runs keeps s _ n c d h.0 reached h.1 in ((h.0, all.0, h.2), all.1)
+  late s c d (order.Run n) r reached h = let all = runs keeps s n c d h.0 reached h.1 in ((h.0, all.0, h.2), all.1)
   late s c d (order.Show n) r reached h = (h, same keeps s c d h.1 reached)
 
   early : (s : S) (o : Order) (r : Result Reply JobFault) (e : Stage S) → EarlyObeys means steps s o r e → Sound e
