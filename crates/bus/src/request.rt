@@ -33,6 +33,9 @@ impl fmt::Display for Width {
     }
 }
 
+// A read is a request like a write, so `Kind` and `Action` are no options; and an access is no request with empty data,
+// since what memories compare has names of its own.
+
 /// The four kinds of request; a read always asks for a word.
 #[derive(Clone, Copy, PartialEq, Eq)]
 pub enum Kind {

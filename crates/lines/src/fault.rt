@@ -13,6 +13,7 @@ pub struct LoadFault {
     pub refused: BusFault,
 }
 
+// `From` is written by hand here, since clauses say which denial a `?` makes of a fault.
 impl From<BusFault> for LoadFault {
     ghost from_gives = { λ f r. r ≡ record { refused = f } };
 
@@ -56,6 +57,7 @@ impl From<Denial> for JobFault {
 }
 
 impl JobFault {
+    // a match, since variants that hold a fault can have no numbers of their own
     /// The number by which the denial is known.
     pub fn number(self) -> u8
         ensures { result ≡ number_of self }

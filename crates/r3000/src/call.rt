@@ -3,7 +3,8 @@
 use super::report::{Clocked, Report};
 use microprogram::ledger::Entry;
 
-/// A call of a core.
+/// A call of a core, as a value: lists of calls are printed, and reasoned about. Numbers that are out of range can be
+/// said, since such a call is denied.
 #[derive(Clone, Copy)]
 pub enum Call {
     Clock,
