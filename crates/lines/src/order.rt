@@ -31,7 +31,7 @@ impl TryFrom<u8> for Kind {
     }
 }
 
-/// A line that is rightly formed.
+/// A line that is rightly formed, as a value: what a job does is told of its orders.
 #[derive(Clone, Copy)]
 pub enum Order {
     /// An address and a word.

@@ -2,6 +2,7 @@
 
 use bus::request::{Request, Width};
 
+/// A step as a value, since it is printed beside what came of it.
 #[derive(Clone, Copy)]
 pub enum Step {
     Ask(Request),
