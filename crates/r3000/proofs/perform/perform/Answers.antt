@@ -1,7 +1,8 @@
-use Rattle.std.proofs.Common.{◌≡◌, take, vec_items, sym, ap, ◌∙◌, arith}
+use Rattle.std.proofs.Common.{◌≡◌, get_or, take, vec_items, sym, ap, ◌∙◌, arith}
 use Rattle.std.proofs.lemmas.List.{take_all, take_more}
 use Rattle.r3000.specs.Core.{machine}
 use Rattle.r3000.specs.Machine.{built, fresh}
+use Rattle.r3000.specs.declared.call.Call.TheVariants as call
 use Rattle.r3000.proofs.Played.{begins, none_played, plays_more}
 use Rattle.r3000.proofs.perform.perform.Goals as goal
 
@@ -15,12 +16,12 @@ pub loop-call-preserved : goal.loop-call-preserved
 loop-call-preserved g c =
     let before = c.loop-call.invariant in
     let done = c.call.ensures before.history in
-    let next = plays_more g.B.Bus.keeps c.new-core.result.pile (built c.new-core.result.pile) _ _ _ _ _ _ before.played before.reached done.1 in
+    let next = plays_more g.B.Bus.keeps c.new-core.result.pile (built c.new-core.result.pile) _ _ _ _ (get_or c.args.calls.now c.loop-call.call-index call.Clock) _ before.played before.reached done.1 in
     record {
       replied = omega (arith, c.push_reserved.ensures.len, before.replied);
       room = omega (arith, c.push_reserved.ensures.capacity, before.room);
       history = done.0;
-      played = rw (← take_more c.args.calls.now c.loop-call.call-index _ c.loop-call-test.true, ← c.push_reserved.ensures.items) at next.0;
+      played = rw (← take_more c.args.calls.now c.loop-call.call-index call.Clock c.loop-call-test.true, ← c.push_reserved.ensures.items) at next.0;
       reached = next.1;
     }
 
