@@ -94,20 +94,18 @@ impl<B: Bus> Core<B> {
     pub fn register(&self, number: u8) -> Result<u32, Denial>
         ensures { result ≡ register_reply number (state_of self.now) }
     {
-        if number > 41 {
-            return Err(Denial::Range);
-        }
-        Ok(self.snapshot()[usize::from(number)])
+        self.snapshot()
+            .get(usize::from(number))
+            .copied()
+            .ok_or(Denial::Range)
     }
 
     /// The ledger's entry of a code, 0–15.
     pub fn ledger(&self, code: u8) -> Result<Entry, Denial>
         ensures { result ≡ ledger_reply code (state_of self.now) }
     {
-        if code > 15 {
-            return Err(Denial::Range);
-        }
-        Ok(self.processor.chip.ledger.entries[usize::from(code)])
+        let entries = &self.processor.chip.ledger.entries;
+        entries.get(usize::from(code)).copied().ok_or(Denial::Range)
     }
 
     /// The byte at an address, unless its word is refused to reads.

@@ -1,7 +1,8 @@
-use Rattle.std.proofs.Common.{rules, ◌≡◌, ℕ, zero, suc, ◌+◌, Bool, true, false, refl, ap, add-one, arith}
+use Rattle.std.proofs.Common.{rules, ◌≡◌, ℕ, zero, suc, ◌+◌, Bool, true, false, Err, refl, ap, add-one, arith}
 use Rattle.bus.specs.declared.request.Answer.{Answer}
 use Rattle.bus.specs.declared.request.Request.{Request}
 use Rattle.microprogram.specs.Cycle.{ends}
+use Rattle.r3000.specs.Calls.{check_run}
 use Rattle.r3000.specs.Core.{Anything, machine}
 use Rattle.r3000.specs.Counts.{counted}
 use Rattle.r3000.specs.Cycle.{Cycles}
@@ -21,7 +22,9 @@ as_many steps says (suc n) c d h =
     omega (arith, as_many steps says n c h.0 h.2, ap (λ m. m.cycles) h.3.report, one_more h.1 (ends (hand h.0.state).sequencing) h.0.report)
 
 pub returns-in_err-check_run : goal.returns-in_err-check_run
-returns-in_err-check_run g c h = (h, rw (← c.in_err-check_run.ensures) (search rules, refl))
+returns-in_err-check_run g c h =
+    let denied : Err _ ≡ check_run c.args.count c.args.self.now.processor.counts.report = c.in_err-check_run.ensures in
+    (h, rw (← denied) (search rules, refl))
 
 pub loop-init : goal.loop-init
 loop-init g c h = (h, refl)
