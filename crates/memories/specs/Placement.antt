@@ -21,8 +21,8 @@ abbrev pub placement : ℕ → ℕ → Result (Unit {0}) Misplaced
 placement base n = cond (aligned base n) (cond (bounded base n) (Ok tt) (Err OutOfBounds)) (Err Unaligned)
 
 -- how many bytes stand at a base: all, or none where the placement is denied
-abbrev pub standing : ℕ → ℕ → ℕ
-standing base n = cond (aligned base n && bounded base n) n 0
+abbrev pub placed_length : ℕ → ℕ → ℕ
+placed_length base n = cond (aligned base n && bounded base n) n 0
 
 -- the bytes that a memory has at a base: none where the placement is denied, so that it then refuses everything
 abbrev pub placed : ℕ → List ℕ → List ℕ

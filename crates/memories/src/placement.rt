@@ -1,7 +1,7 @@
 //! Where a memory may stand.
 
 ghost use Rattle.std.specs.Prelude.{◌≡◌};
-ghost use Rattle.memories.specs.Placement.{number, placement, standing};
+ghost use Rattle.memories.specs.Placement.{number, placed_length, placement};
 
 /// The longest memory, in bytes.
 pub const MAX_LENGTH: usize = 1_048_576;
@@ -41,7 +41,7 @@ pub fn check_placement(base: u32, length: usize) -> Result<(), Misplaced>
 
 /// How many bytes stand at `base`: all of them, or none where the placement is denied.
 pub(crate) fn placed_length(base: u32, length: usize) -> usize
-    ensures { result ≡ standing base length }
+    ensures { result ≡ placed_length base length }
 {
     check_placement(base, length).map_or(0, |()| length)
 }
