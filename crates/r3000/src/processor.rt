@@ -4,7 +4,7 @@ ghost use Rattle.std.specs.Prelude.{◌≡◌, ◌<◌};
 ghost use Rattle.microprogram.specs.Cycle.{powered, seen};
 ghost use Rattle.r3000.specs.Core.{made};
 ghost use Rattle.r3000.specs.Counts.{limit, zeros};
-ghost use Rattle.r3000.specs.Cycle.{Asks, Cycle};
+ghost use Rattle.r3000.specs.Cycle.{Asks, Cycle, freezes};
 ghost use Rattle.r3000.specs.Machine.{History};
 
 use super::counts::Counts;
@@ -37,7 +37,7 @@ impl Processor {
         }
     }
 
-    /// One cycle on a pile; tells whether it was frozen, as it is exactly when the pile answers wait.
+    /// One cycle on a pile; tells whether it was frozen.
     pub(crate) fn cycle<B: Bus>(&mut self, pile: &mut B) -> bool
         requires { self.old.counts.report.cycles < limit }
         ensures { (h : History) → (k : History) × Cycle B.Bus.steps (made h self.old pile.old) result (made k self.new pile.new) }
@@ -46,7 +46,7 @@ impl Processor {
         let work = self.chip.work(row);
         let request = self.chip.request(row.transfer, work.0);
         let answer = ask(pile, request);
-        let frozen = answer == Some(Answer::Wait);
+        let frozen = freezes(answer);
         if !frozen {
             self.chip.advance(row, self.lines, work, answer);
         }
@@ -60,4 +60,11 @@ fn ask<B: Bus>(pile: &mut B, request: Option<Request>) -> Option<Answer>
     ensures { Asks B.Bus.steps pile.old request result pile.new }
 {
     Some(pile.request(request?))
+}
+
+/// A cycle is frozen exactly when the pile answers wait.
+fn freezes(answer: Option<Answer>) -> bool
+    ensures { result ≡ freezes answer }
+{
+    answer == Some(Answer::Wait)
 }
