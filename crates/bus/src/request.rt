@@ -76,6 +76,7 @@ pub struct Access {
 }
 
 impl Access {
+    /// The rules' word for it.
     pub fn same(self, other: Access) -> bool
         ensures { result ≡ same self other }
     {
@@ -114,7 +115,8 @@ impl Request {
     }
 }
 
-/// `Done` carries the word that a read found, and 0 after a write.
+/// The bus's own three words, and so no `Option` of a `Result`. `Done` carries the word that a read found, and 0 after a
+/// write.
 #[derive(Clone, Copy, PartialEq, Eq)]
 pub enum Answer {
     Wait,

@@ -3,8 +3,9 @@
 ghost use Rattle.std.specs.Iterator.{YieldsFirstRef, item_count};
 ghost use Rattle.jobs.specs.Job.{lines_of};
 
-/// The lines that are still to come of a job, each without the byte that ends it.
 // A type, and no chain in `run`: a `for` of a generic function over an iterator that holds a closure gets no proof.
+
+/// The lines that are still to come of a job, each without the byte that ends it.
 #[derive(Drop)]
 pub struct Lines<'a>(pub &'a [u8]);
 

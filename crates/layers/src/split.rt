@@ -1,6 +1,7 @@
 //! Split: two memories side by side, parted at a mark.
 
-ghost use Rattle.std.specs.Prelude.{◌≡◌};
+ghost use Rattle.std.specs.Prelude.{◌≡◌, nat_lt};
+ghost use Rattle.bus.specs.Request.{word_of};
 ghost use Rattle.layers.specs.Keeps.Split.{split_keeps};
 ghost use Rattle.layers.specs.Split.{SplitSteps, split, split_means};
 
@@ -27,6 +28,15 @@ impl<A: Bus, B: Bus> Split<A, B> {
     }
 }
 
+impl<A, B> Split<A, B> {
+    /// Whether an address is the first memory's.
+    fn is_low(&self, address: u32) -> bool
+        ensures { result ≡ nat_lt address (word_of self.now.mark) }
+    {
+        address < word_of(self.mark)
+    }
+}
+
 impl<A: Bus, B: Bus> Bus for Split<A, B> {
     ghost means = { split_means A.Bus.means B.Bus.means };
 
@@ -35,7 +45,7 @@ impl<A: Bus, B: Bus> Bus for Split<A, B> {
     ghost keeps = { split_keeps A.Bus.keeps B.Bus.keeps };
 
     fn request(&mut self, q: Request) -> Answer {
-        if q.address < word_of(self.mark) {
+        if self.is_low(q.address) {
             self.first.request(q)
         } else {
             self.second.request(q)
@@ -43,7 +53,7 @@ impl<A: Bus, B: Bus> Bus for Split<A, B> {
     }
 
     fn look(&self, address: u32) -> Option<u8> {
-        if address < word_of(self.mark) {
+        if self.is_low(address) {
             self.first.look(address)
         } else {
             self.second.look(address)

@@ -14,7 +14,7 @@ pub fn value(byte: u8) -> Option<u8>
     }
 }
 
-/// The digit of a value, of which the four low bits count.
+/// The digit of a value, of which the four low bits count: what `value` reads. Replies are written by the library.
 pub fn byte(value: u8) -> u8
     ensures { result ≡ byte_of (value % 16) }
 {

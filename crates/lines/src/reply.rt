@@ -34,6 +34,7 @@ pub struct Denied {
     pub address: u32,
 }
 
+/// A denial is a line of replies like the others, written and read back in one form, and so no `Err`.
 #[derive(Clone, Copy)]
 pub enum Reply {
     Loaded,
@@ -75,6 +76,7 @@ impl fmt::Display for Denied {
     }
 }
 
+/// The codes of the lines, and FF: as text, since that is the format.
 impl fmt::Display for Reply {
     ghost use Rattle.lines.specs.Written.{fields_in, parted};
 

@@ -4,8 +4,9 @@ use Rattle.std.proofs.lemmas.List.{length-set}
 use Rattle.std.proofs.lemmas.Bool.{cases_eq, le-leb, leb-true}
 use Rattle.std.proofs.lemmas.Bool.Decides.{nat_tests}
 use Rattle.bus.specs.Meaning.{stored}
-use Rattle.memories.specs.Region.{held, outside}
-use Rattle.bus.specs.Request.{first, size, word_of}
+use Rattle.memories.specs.Region.{Moves, held, outside}
+use Rattle.bus.specs.Request.{first, size, word_of, writing}
+use Rattle.bus.specs.declared.request.Answer.TheVariants.{Done}
 use Rattle.bus.specs.declared.request.Width.{Width}
 
 -- n bytes of the data written from a place of the list on
@@ -82,8 +83,13 @@ unfolding filled
 filled_byte at d bs = rw (add-zero, div-one)
 
 -- what a write does with the bytes of its word, at any width
-pub landed : (base address d at start : ℕ) (w : Width) (bs out : List ℕ) → Some at ≡ cond (outside base (length bs) (word_of address)) None (Some (word_of address - base))
-    → base + start ≡ first w address → start + size w ≤ length bs → out ≡ filled start (size w) d bs → (x : ℕ)
-    → held base out x ≡ cond (outside base (length bs) (word_of address)) (held base bs x) (stored (first w address) (size w) d (held base bs) x)
-landed base address d at start w bs out got from fits is x =
-    rw (is, (inside base (length bs) (word_of address) at got).0, ← from) (held-filled base bs start (size w) d x fits)
+pub moves : (base address d at start : ℕ) (w : Width) (bs out : List ℕ) → Some at ≡ cond (outside base (length bs) (word_of address)) None (Some (word_of address - base))
+    → base + start ≡ first w address → start + size w ≤ length bs → out ≡ filled start (size w) d bs → Moves base bs (writing w address d) (Done 0) base out
+moves base address d at start w bs out got from fits is =
+    let inner : outside base (length bs) (word_of address) ≡ false = (inside base (length bs) (word_of address) at got).0 in
+    record {
+      based = refl;
+      sized = rw is (filled_length start (size w) d bs);
+      answered = rw inner refl;
+      holds = λ x. rw (is, inner, ← from) (held-filled base bs start (size w) d x fits);
+    }

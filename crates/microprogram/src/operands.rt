@@ -36,12 +36,8 @@ pub fn read_cr(lines: u8, cr: u32) -> u32
 fn extended_immediate(ir: u32) -> u32
     ensures { result ≡ extended ir }
 {
-    let immediate = ir % 65536;
-    if immediate < 32768 {
-        immediate
-    } else {
-        immediate + 0xFFFF_0000
-    }
+    let immediate = (ir % 65_536) as u16;
+    i32::from(immediate.cast_signed()).cast_unsigned()
 }
 
 impl Registers {

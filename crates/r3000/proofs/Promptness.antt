@@ -1,12 +1,12 @@
 -- The next boundary is near: what is left of the path falls with every granted cycle. Assumes nothing.
 use Rattle.std.proofs.Common.{◌≡◌, ℕ, zero, suc, ◌+◌, ◌-◌, ◌*◌, ◌<◌, ◌≤◌, Bool, true, false, cond, T, ltb, leb, ◌∷◌, Some, None, Option, sym, refl, ap, ◌∙◌, subst, add-mul, sub-add_cancel, arith}
-use Rattle.std.proofs.lemmas.Bool.{leb-true, ltb-true}
+use Rattle.std.proofs.lemmas.Bool.{leb-true, ltb-true, true≢false}
 use Rattle.bus.specs.Meaning.{Keeps, Meaning, Sound}
 use Rattle.bus.specs.declared.request.Access.{Access}
 use Rattle.bus.specs.declared.request.Answer.{Answer}
 use Rattle.bus.specs.declared.request.Request.{Request}
 use Rattle.book.specs.Instant.{asked}
-use Rattle.microprogram.proofs.Ends.{rows_end}
+use Rattle.microprogram.proofs.Ends.{left, right, rows_end}
 use Rattle.microprogram.specs.Bounds.{accesses, all, ending, successors}
 use Rattle.microprogram.specs.Cycle.{State, access, ends, requested}
 use Rattle.microprogram.specs.Registers.{Regs}
@@ -14,7 +14,7 @@ use Rattle.microprogram.specs.declared.fault.Fault.{Fault}
 use Rattle.r3000.specs.Cycle.{Cycle}
 use Rattle.r3000.specs.Machine.{History, Machine, built, hand, with_lines}
 use Rattle.r3000.proofs.Answered.{fixed, frozen, waiting}
-use Rattle.r3000.proofs.Successors.{follows, left, right}
+use Rattle.r3000.proofs.Successors.{follows}
 use Rattle.rows.specs.declared.row.Transfer.{Transfer}
 use Rattle.rows.specs.declared.row.Transfer.TheVariants as m
 
@@ -51,10 +51,7 @@ first zero touch c h = absurd h
 first (suc rows) touch c h = leb-true _ _ (true_test _ (left (leb (touches c) touch) _ h))
 
 apart : (e b : Bool) → T (elim e [ true ↦ true | false ↦ b ]) → e ≡ false → T b
-apart true b h e = absurd (true_false e)
-  where
-    true_false : true ≡ false → ⊥
-    true_false e = subst (λ b. T b) e tt
+apart true b h e = absurd (true≢false e)
 apart false b h e = h
 
 -- and the rest of the path is one row shorter

@@ -1,6 +1,7 @@
 -- The row that follows is one of the successors, and before a boundary it does not depend on the lines. Assumes nothing.
-use Rattle.std.proofs.Common.{◌≡◌, ℕ, zero, suc, ◌+◌, ◌*◌, ◌/◌, ◌%◌, ◌<◌, Bool, true, false, ◌&&◌, T, refl, suc-mul, arith}
+use Rattle.std.proofs.Common.{◌≡◌, ℕ, zero, suc, ◌+◌, ◌*◌, ◌/◌, ◌%◌, ◌<◌, Bool, true, false, T, refl, suc-mul, arith}
 use Rattle.std.proofs.lemmas.Bool.{true≢false}
+use Rattle.microprogram.proofs.Ends.{left, right}
 use Rattle.microprogram.specs.Bounds.{all, spread, successors}
 use Rattle.microprogram.specs.Cycle.{ends, following, interrupting, resetting}
 use Rattle.microprogram.specs.Registers.{Regs}
@@ -8,14 +9,6 @@ use Rattle.microprogram.specs.Word.{bit, function, opcode, system}
 use Rattle.rows.specs.Operation.{one_if}
 use Rattle.rows.specs.declared.row.Sequencing.{Sequencing}
 use Rattle.rows.specs.declared.row.Sequencing.TheVariants as s
-
-pub left : (a b : Bool) → T (a && b) → T a
-left true b h = tt
-left false b h = h
-
-pub right : (a b : Bool) → T (a && b) → T b
-right true b h = h
-right false b h = absurd h
 
 -- what holds of all numbers of a spread holds of each
 among : (p : ℕ → Bool) (from by n : ℕ) → T (all p (spread from by n)) → (k : ℕ) → k < n → (m : ℕ) → m ≡ from + k * by → T (p m)

@@ -23,6 +23,7 @@ impl Counts {
     ghost use Rattle.r3000.specs.Calls.{check_cycles, check_run};
     ghost use Rattle.r3000.specs.Counts.{counted, zeros};
 
+    // by hand: a struct that keeps facts derives no `Default`
     pub(crate) fn new() -> Counts
         ensures { result.report ≡ zeros }
     {

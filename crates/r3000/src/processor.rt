@@ -44,7 +44,8 @@ impl Processor {
     {
         let row = row(self.chip.row);
         let work = self.chip.work(row);
-        let request = self.chip.request(row.transfer, work.0);
+        let (res, ..) = work;
+        let request = self.chip.request(row.transfer, res);
         let answer = ask(pile, request);
         let frozen = freezes(answer);
         if !frozen {

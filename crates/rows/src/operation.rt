@@ -111,7 +111,7 @@ impl Operation {
     }
 }
 
-/// RES, signed overflow, and whether RES is zero: a tuple, which the cycle takes apart at once.
+/// RES, signed overflow, and whether RES is zero: a tuple, which the cycle takes apart.
 pub fn operate(operation: Operation, x: u32, y: u32) -> (u32, bool, bool)
     ensures { result ≡ operated operation x y }
 {

@@ -9,7 +9,7 @@ use super::row::{
     Transfer as M,
 };
 
-/// The fields of a row, in the order of the listing.
+/// The fields of a row, in the order of the listing: a tuple, so that a row of the table is one line, like the listing's.
 type Fields = (X, Y, A, R, M, E, S, u16);
 
 /// What an address holds that the listing leaves out: an illegal code, followed by row 15.
