@@ -95,7 +95,8 @@ impl Request {
         }
     }
 
-    /// Asks to write the low bits of the data.
+    /// Asks to write the low bits of the data. Width, address and data are what a write is: no struct has them before there
+    /// is a request.
     pub fn write(width: Width, address: u32, data: u32) -> Request
         ensures { result ≡ writing width address «data» }
     {

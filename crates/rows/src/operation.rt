@@ -71,6 +71,7 @@ fn signed_remainder(x: u32, y: u32) -> u32
         .cast_unsigned()
 }
 
+// Two operands, as an operation has them, and so no struct for both.
 impl Operation {
     /// What it gives for X and Y.
     fn result(self, x: u32, y: u32) -> u32
