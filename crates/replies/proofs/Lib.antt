@@ -1,1 +1,2 @@
+mod Examples
 mod Replies
