@@ -1,2 +1,3 @@
+pub mod Decided
 mod Lines
 mod Working

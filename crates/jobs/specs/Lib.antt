@@ -1,2 +1,3 @@
+pub mod Decided
 pub mod Job
 pub mod Station

@@ -1,1 +1,2 @@
+pub mod Decided
 pub mod Job

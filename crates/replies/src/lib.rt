@@ -1,0 +1,22 @@
+//! Jobs on the pile that jobs run on, with each reply said exactly.
+
+#![tactic(auto)]
+
+ghost use Rattle.std.specs.Prelude.{◌≡◌, IfOk};
+ghost use Rattle.replies.specs.Replies.{replies_to};
+
+#[cfg(test)]
+mod tests;
+
+use jobs::job::run;
+use pile::job::{HIGH_LENGTH, LOW_LENGTH, pile};
+use std::alloc::{AllocError, Global};
+
+/// Runs a job on a pile of zeroes. The bytes of its replies come back.
+pub fn answer(heap: Global, job: &[u8]) -> Result<Vec<u8>, AllocError>
+    ensures { IfOk result (λ v. v.items ≡ replies_to job.now) }
+{
+    let mut low = vec![in heap; 0u8; LOW_LENGTH]?;
+    let mut high = vec![in heap; 0u8; HIGH_LENGTH]?;
+    run(heap, pile(&mut low, &mut high), job)
+}
