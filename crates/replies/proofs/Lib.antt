@@ -1,2 +1,3 @@
 mod Examples
+mod Front
 mod Replies

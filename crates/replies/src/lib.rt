@@ -2,7 +2,7 @@
 
 #![tactic(auto)]
 
-ghost use Rattle.std.specs.Prelude.{◌≡◌, IfOk};
+ghost use Rattle.std.specs.Prelude.{◌≡◌, ℕ, List, take, IfOk};
 ghost use Rattle.replies.specs.Replies.{replies_to};
 
 #[cfg(test)]
@@ -11,6 +11,13 @@ mod tests;
 use jobs::job::run;
 use pile::job::{HIGH_LENGTH, LOW_LENGTH, pile};
 use std::alloc::{AllocError, Global};
+
+/// How many bytes of a job tell its replies: one more than a job may have tells that it is too long.
+pub fn enough() -> u64
+    ensures { (job : List ℕ) → replies_to (take result job) ≡ replies_to job }
+{
+    65_537
+}
 
 /// Runs a job on a pile of zeroes. The bytes of its replies come back.
 pub fn answer(heap: Global, job: &[u8]) -> Result<Vec<u8>, AllocError>
