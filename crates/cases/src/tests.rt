@@ -5,18 +5,10 @@ use super::{
     arithmetic, branches, calls, cycles, errors, handlers, interrupts, jumps, memory, misplaced,
     products, programs, reading, resets, system, user, user_memory,
 };
-use jobs::job::run;
-use pile::job;
+use replies::answer;
 use std::alloc::{AllocError, Global};
 use std::process::Abort;
 use std::test::Fail;
-
-/// What a job is answered on the pile that jobs run on.
-fn answer(heap: Global, text: &[u8]) -> Result<Vec<u8>, AllocError> {
-    let mut low = vec![in heap; 0u8; job::LOW_LENGTH]?;
-    let mut high = vec![in heap; 0u8; job::HIGH_LENGTH]?;
-    run(heap, job::pile(&mut low, &mut high), text)
-}
 
 /// Stops at the first case of a table that is answered otherwise, and names it by its place, from 0.
 fn hold(rt: &(impl Abort + AllocGlobal), table: &str, cases: &[Case]) -> Result<(), AllocError> {
