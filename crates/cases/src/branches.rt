@@ -214,6 +214,6 @@ static CASES: [Case; 17] = [
 ];
 
 /// The table.
-pub fn cases() -> &'static [Case] {
+pub(super) fn cases() -> &'static [Case] {
     &CASES
 }

@@ -228,6 +228,6 @@ static CASES: [Case; 13] = [
 ];
 
 /// The table.
-pub fn cases() -> &'static [Case] {
+pub(super) fn cases() -> &'static [Case] {
     &CASES
 }

@@ -342,6 +342,6 @@ static CASES: [Case; 40] = [
 ];
 
 /// The table.
-pub fn cases() -> &'static [Case] {
+pub(super) fn cases() -> &'static [Case] {
     &CASES
 }

@@ -308,6 +308,6 @@ static CASES: [Case; 22] = [
 ];
 
 /// The table.
-pub fn cases() -> &'static [Case] {
+pub(super) fn cases() -> &'static [Case] {
     &CASES
 }

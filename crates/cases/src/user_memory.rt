@@ -216,6 +216,6 @@ static CASES: [Case; 15] = [
 ];
 
 /// The table.
-pub fn cases() -> &'static [Case] {
+pub(super) fn cases() -> &'static [Case] {
     &CASES
 }
