@@ -8,8 +8,7 @@ mod arithmetic;
 mod branches;
 #[cfg(test)]
 mod calls;
-#[cfg(test)]
-mod case;
+pub mod case;
 #[cfg(test)]
 mod cycles;
 #[cfg(test)]
