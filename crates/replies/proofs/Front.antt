@@ -1,5 +1,5 @@
 -- As many bytes of a job as tell that it is too long tell its replies. Assumes nothing.
-use Rattle.std.proofs.Common.{◌≡◌, ℕ, ◌+◌, Bool, true, false, cond, List, length, take, ltb, refl, ap, arith}
+use Rattle.std.proofs.Common.{◌≡◌, ℕ, ◌+◌, Bool, true, false, cond, List, length, take, ltb, refl, arith}
 use Rattle.std.proofs.lemmas.Bool.{ltb-false, ltb-true, lt-ltb}
 use Rattle.std.proofs.lemmas.List.{length-take, take_all}
 use Rattle.jobs.specs.Decided.{replies}
@@ -8,7 +8,6 @@ use Rattle.jobs.specs.Station.{loading}
 use Rattle.lines.specs.Written.{written}
 use Rattle.lines.specs.declared.fault.JobFault.TheVariants as fault
 use Rattle.pile.specs.Decided.{next}
-use Rattle.pile.specs.Job.{job_pile}
 use Rattle.replies.specs.Replies.{replies_to, zeroed}
 
 front : (n : ℕ) (f : List ℕ → List ℕ) (t job : List ℕ) → cond (ltb n (length (take (n + 1) job))) t (f (take (n + 1) job)) ≡ cond (ltb n (length job)) t (f job)

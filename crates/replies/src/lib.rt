@@ -14,7 +14,8 @@ use std::alloc::{AllocError, Global};
 
 /// How many bytes of a job tell its replies: one more than a job may have tells that it is too long.
 pub fn enough() -> u64
-    ensures { (job : List ℕ) → replies_to (take result job) ≡ replies_to job }
+    ensures value { result ≡ 65537 }
+    ensures tells { (job : List ℕ) → replies_to (take result job) ≡ replies_to job }
 {
     65_537
 }

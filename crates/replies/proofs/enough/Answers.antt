@@ -1,5 +1,5 @@
 use Rattle.replies.proofs.Front.{enough}
 use Rattle.replies.proofs.enough.Goals as goal
 
-pub returns : goal.returns
-returns c = enough
+pub returns-clause-tells : goal.returns-clause-tells
+returns-clause-tells c = enough

@@ -10,5 +10,5 @@ front f (Some bytes) n job tells h = ap f h ∙ tells bytes
 
 pub returns : goal.returns
 returns g c =
-    front replies_to (g.R.Read.remaining c.args.reader) c.enough.result c.read_to_end.new.buf.items c.enough.ensures
+    front replies_to (g.R.Read.remaining c.args.reader) c.enough.result c.read_to_end.new.buf.items c.enough.ensures.tells
     (simp (c.take.ensures.inner, c.take.ensures.limit, c.new-job.ensures.items) at c.in_ok-read_to_end.ensures.bytes)
