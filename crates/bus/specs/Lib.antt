@@ -1,3 +1,4 @@
+pub mod Decided
 pub mod Meaning
 pub mod Request
 pub mod Settled

@@ -1,4 +1,5 @@
--- What a memory means, and the five points that it keeps. Assumes nothing.
+-- What a memory means, and the five points that it keeps: 1 wait, 2 bus error, 3 done, 4 the waits afterwards, 5 look.
+-- Assumes nothing.
 use Rattle.std.specs.Prelude.{◌≡◌, ℕ, ◌+◌, ◌-◌, ◌*◌, ◌/◌, ◌%◌, ◌^◌, ◌<◌, ◌≤◌, Bool, true, cond, ◌&&◌, ◌||◌, Some, None, Option, nat_le, nat_lt}
 use Rattle.bus.specs.Request.{access_of, size, word_of, first}
 use Rattle.bus.specs.declared.request.Access.{Access}
@@ -19,11 +20,16 @@ pub record Meaning : Type 0 where
   -- the memory's longest wait, W
   pub longest : ℕ
 
--- bytes are bytes, no request waits longer than W, and W is at most 65,535
+-- the most that a longest wait may be
+abbrev pub max_wait : ℕ
+max_wait = 65535
+
+-- bytes are bytes, no request waits longer than W, and W is at most max_wait; so the waits that points 1 and 4 leave
+-- free lie from 0 to W
 pub record Sound (m : Meaning) : Type 0 where
   pub bytes : (address : ℕ) → m.byte address < 256
   pub waits : (x : Access) → m.waits x ≤ m.longest
-  pub longest : m.longest ≤ 65535
+  pub longest : m.longest ≤ max_wait
 
 -- the word with this name: its lowest address is in its lowest eight bits
 abbrev pub word_at : (ℕ → ℕ) → ℕ → ℕ
@@ -60,23 +66,22 @@ answer m q = cond (stalled m q) Wait (cond (refused m q) BusError (Done (carried
 abbrev pub after : Meaning → Request → ℕ → ℕ
 after m q address = cond (stalled m q || refused m q) (m.byte address) (written m q address)
 
--- the five points: a request, its answer, and the memory before and after it
+-- points 1 to 4: a request, its answer, and the memory before and after it
 pub record Answers (m : Meaning) (q : Request) (a : Answer) (n : Meaning) : Type 0 where
   pub answered : a ≡ answer m q
   pub bytes : (address : ℕ) → n.byte address ≡ after m q address
-  -- a wait takes one from the waits of its own request; all other waits are free within 0 to W
+  -- a wait takes one from the waits of its own request; all other waits are free
   pub counted : stalled m q ≡ true → n.waits (access_of q) + 1 ≡ m.waits (access_of q)
-  pub within : (x : Access) → n.waits x ≤ n.longest
   -- what is refused, and W, never change
   pub unreadable : (w : ℕ) → n.unreadable w ≡ m.unreadable w
   pub unwritable : (w : ℕ) → n.unwritable w ≡ m.unwritable w
   pub longest : n.longest ≡ m.longest
 
--- look: the byte, or none where its word is refused to reads
+-- point 5, look: the byte, or none where its word is refused to reads
 abbrev pub looked : Meaning → ℕ → Option ℕ
 looked m address = cond (m.unreadable (word_of address)) None (Some (m.byte address))
 
--- what every memory owes: its meaning is sound, and each of its steps keeps the five points
+-- what every memory owes: its meaning is sound, and each of its steps keeps points 1 to 4
 pub record Keeps {S : Type 0} (means : S → Meaning) (steps : S → Request → Answer → S → Type 0) : Type 0 where
   pub sound : (s : S) → Sound (means s)
   pub tells : (s : S) (q : Request) (a : Answer) (t : S) → steps s q a t → Answers (means s) q a (means t)

@@ -1,5 +1,5 @@
 -- What a request is. Assumes nothing.
-use Rattle.std.specs.Prelude.{ℕ, ◌-◌, ◌%◌, Bool, ◌&&◌, List, codes, ◌==◌}
+use Rattle.std.specs.Prelude.{ℕ, ◌-◌, ◌%◌, Bool, ◌&&◌, ◌==◌}
 use Rattle.bus.specs.declared.request.Access.{Access}
 use Rattle.bus.specs.declared.request.Action.{Action}
 use Rattle.bus.specs.declared.request.Action.TheVariants as action
@@ -38,12 +38,6 @@ same x y = x.address == y.address && kind_number x.kind == kind_number y.kind
 -- the same action at another address
 abbrev pub moved : ℕ → Request → Request
 moved address q = record { address = address; action = q.action }
-
--- a width as it is printed
-abbrev pub name_of : Width → List ℕ
-name_of Word = codes "word"
-name_of Half = codes "half"
-name_of Byte = codes "byte"
 
 -- how many bytes a write changes
 abbrev pub size : Width → ℕ

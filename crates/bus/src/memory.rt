@@ -7,10 +7,13 @@ ghost use Rattle.bus.specs.declared.request.Request.{Request};
 
 use super::request::{Answer, Request};
 
+/// The most that a memory's longest wait may be.
+pub const MAX_WAIT: u16 = 65_535;
+
 /// A memory, or a layer above memories.
 ///
 /// `means` is what it is to everything above, `steps` exactly how it goes on, and `keeps` the proof
-/// that each step keeps the five points of the bus (docs/BUS.md).
+/// that each step keeps points 1 to 4 of the bus (docs/BUS.md); point 5 is the clause of `look`.
 pub trait Bus {
     ghost means: { Self → Meaning };
 

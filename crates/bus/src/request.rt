@@ -1,9 +1,7 @@
 //! What is asked of a memory, and what it answers.
 
-ghost use Rattle.std.specs.Prelude.{◌≡◌, Some};
-ghost use Rattle.bus.specs.Request.{access_of, kind_of, name_of, reading, same, word_of, writing};
-
-use std::fmt;
+ghost use Rattle.std.specs.Prelude.{◌≡◌};
+ghost use Rattle.bus.specs.Request.{access_of, kind_of, reading, same, word_of, writing};
 
 /// The name of the word that an address lies in: the address with its two low bits cleared.
 pub fn word_of(address: u32) -> u32
@@ -18,19 +16,6 @@ pub enum Width {
     Word,
     Half,
     Byte,
-}
-
-impl fmt::Display for Width {
-    ghost output = { λ w. Some (name_of w) };
-
-    fn fmt<W: fmt::Write>(&self, f: &mut fmt::Formatter<W>) -> fmt::Result {
-        let name = match self {
-            Width::Word => "word",
-            Width::Half => "half",
-            Width::Byte => "byte",
-        };
-        f.write_str(name)
-    }
 }
 
 // A read is a request like a write, so `Kind` and `Action` are no options; and an access is no request with empty data,

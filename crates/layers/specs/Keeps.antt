@@ -1,4 +1,4 @@
--- The proofs that the layers keep the five points of the bus where the memories below do.
+-- The proofs that the layers mean something sound and keep points 1 to 4 of the bus where the memories below do.
 -- They define nothing: they stand in specs/ because each implementation of the trait cites its own.
 pub mod Delay
 pub mod Layer

@@ -46,7 +46,6 @@ waits n state m q sound h =
       answered = rw stalls;
       bytes = λ x. rw stalls;
       counted = λ e. rw (left_self k (c - 1) (access_of q) (omega (arith, left_bound k state (access_of q)))) (omega arith);
-      within = (delay_sound n (Some (record { access = access_of q; count = c - 1 })) m sound).waits;
       unreadable = λ w. refl;
       unwritable = λ w. refl;
       longest = refl;
@@ -70,7 +69,6 @@ asks n state m m' address y a sound z h =
       through = record { waits = rw z (omega arith); unreadable = refl; unwritable = refl; low = refl; bytes = λ i s. refl };
       seen = λ x. inl (x, record { before = refl; after = refl; there = λ k. omega arith; back = λ k. k });
       waits = λ e. rw (e, left_self (lowered n m'.longest) 0 (access_of (request address y)) (omega arith)) (omega arith);
-      within = (delay_sound n (ended (access_of (request address y)) a) m' sound).waits;
       unreadable = h.unreadable;
       unwritable = h.unwritable;
       longest = ap (λ l. l + lowered n l) h.longest;

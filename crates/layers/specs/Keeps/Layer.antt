@@ -131,7 +131,6 @@ pub record HandsOn (m m' p p' : Meaning) (address : ℕ) (y : Action) (to : ℕ)
   pub through : Through m p address y to
   pub seen : (x : ℕ) → ((x' : ℕ) × Stands m m' p p' address to x x') ⊎ Beside m m' address x
   pub waits : a ≡ Wait → m'.waits (access_of (request address y)) ≡ p'.waits (access_of (request to y))
-  pub within : (x : Access) → m'.waits x ≤ m'.longest
   pub unreadable : (w : ℕ) → m'.unreadable w ≡ m.unreadable w
   pub unwritable : (w : ℕ) → m'.unwritable w ≡ m.unwritable w
   pub longest : m'.longest ≡ m.longest
@@ -155,14 +154,13 @@ module _ {m m' p p' : Meaning} {address : ℕ} {y : Action} {to : ℕ} {a : Answ
       let waited : a ≡ Wait = below.answered ∙ rw t in
       rw (h.waits waited, h.through.waits) (below.counted t)
 
-  -- a layer keeps the five points where the memory below does
+  -- a layer's step keeps points 1 to 4 where the step of the memory below does
   pub layer : Answers m (request address y) a m'
   layer =
       record {
         answered = below.answered ∙ sym (same_answer y h.through);
         bytes = λ x. bytes x (h.seen x);
         counted = λ t. counted (rw h.through.waits at t);
-        within = h.within;
         unreadable = h.unreadable;
         unwritable = h.unwritable;
         longest = h.longest;

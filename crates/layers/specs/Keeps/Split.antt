@@ -1,4 +1,4 @@
--- Split keeps the five points. Assumes nothing.
+-- Split means something sound, and its steps keep points 1 to 4 of the bus. Assumes nothing.
 use Rattle.std.specs.Prelude.{◌≡◌, ℕ, ◌+◌, ◌<◌, ◌≤◌, max, Bool, true, false, cond, ◌⊎◌, MatchBool, nat_lt, refl}
 use Rattle.std.proofs.Common.{inl, inr, sym, ap, subst, arith}
 use Rattle.std.proofs.lemmas.Bool.{both_ways, cases_Bool, le-ltb, lt-ltb, ltb-false, ltb-true}
@@ -32,8 +32,8 @@ module _ (mark address : ℕ) (y : Action) where
   above : word_of mark ≤ address → (x : ℕ) → word_of x ≡ word_of address → nat_lt x (word_of mark) ≡ false
   above l x e = le-ltb x (word_of mark) (omega arith)
 
-  first_asked : (one one' two : Meaning) → Sound (split mark one' two) → address < word_of mark → {a : Answer} → Answers one (request address y) a one' → Answers (split mark one two) (request address y) a (split mark one' two)
-  first_asked one one' two sound l h =
+  first_asked : (one one' two : Meaning) → address < word_of mark → {a : Answer} → Answers one (request address y) a one' → Answers (split mark one two) (request address y) a (split mark one' two)
+  first_asked one one' two l h =
       layer (
       record {
         through =
@@ -46,7 +46,6 @@ module _ (mark address : ℕ) (y : Action) where
             };
         seen = λ x. seen x (cases_Bool (nat_lt x (word_of mark)));
         waits = λ e. rw (below l address refl);
-        within = sound.waits;
         unreadable = λ w. ap (λ b. cond (nat_lt w (word_of mark)) b (two.unreadable w)) (h.unreadable w);
         unwritable = λ w. ap (λ b. cond (nat_lt w (word_of mark)) b (two.unwritable w)) (h.unwritable w);
         longest = ap (λ n. max n two.longest) h.longest;
@@ -56,8 +55,8 @@ module _ (mark address : ℕ) (y : Action) where
       seen x (inl t) = inl (x, record { before = rw t; after = rw t; there = λ e. omega arith; back = λ e. e })
       seen x (inr f) = inr (record { stays = rw f; apart = λ e. both_ways _ f (below l x e) })
 
-  second_asked : (one two two' : Meaning) → Sound (split mark one two') → word_of mark ≤ address → {a : Answer} → Answers two (request address y) a two' → Answers (split mark one two) (request address y) a (split mark one two')
-  second_asked one two two' sound l h =
+  second_asked : (one two two' : Meaning) → word_of mark ≤ address → {a : Answer} → Answers two (request address y) a two' → Answers (split mark one two) (request address y) a (split mark one two')
+  second_asked one two two' l h =
       layer (
       record {
         through =
@@ -70,7 +69,6 @@ module _ (mark address : ℕ) (y : Action) where
             };
         seen = λ x. seen x (cases_Bool (nat_lt x (word_of mark)));
         waits = λ e. rw (above l address refl);
-        within = sound.waits;
         unreadable = λ w. ap (cond (nat_lt w (word_of mark)) (one.unreadable w)) (h.unreadable w);
         unwritable = λ w. ap (cond (nat_lt w (word_of mark)) (one.unwritable w)) (h.unwritable w);
         longest = ap (max one.longest) h.longest;
@@ -81,9 +79,6 @@ module _ (mark address : ℕ) (y : Action) where
       seen x (inr f) = inl (x, record { before = rw f; after = rw f; there = λ e. omega arith; back = λ e. e })
 
 module _ {A B : Type 0} {meansA : A → Meaning} {meansB : B → Meaning} {stepsA : A → Request → Answer → A → Type 0} {stepsB : B → Request → Answer → B → Type 0} (keepsA : Keeps meansA stepsA) (keepsB : Keeps meansB stepsB) where
-  sound_of : (mark : ℕ) (one : A) (two : B) → Sound (split mark (meansA one) (meansB two))
-  sound_of mark one two = split_sound mark (meansA one) (meansB two) (keepsA.sound one) (keepsB.sound two)
-
   tells : (s : Split A B) (q : Request) (a : Answer) (t : Split A B) → SplitSteps stepsA stepsB s q a t → Answers (split_means meansA meansB s) q a (split_means meansA meansB t)
   tells s q a t h =
       subst (λ k. Answers m q a (split k (meansA t.first) (meansB t.second))) (sym h.0) (go (nat_lt q.address (word_of s.mark)) refl h.1)
@@ -94,10 +89,10 @@ module _ {A B : Type 0} {meansA : A → Meaning} {meansB : B → Meaning} {steps
       go : (b : Bool) → nat_lt q.address (word_of s.mark) ≡ b → MatchBool b (stepsA s.first q a t.first × (t.second ≡ s.second)) (stepsB s.second q a t.second × (t.first ≡ s.first)) → Answers m q a (split s.mark (meansA t.first) (meansB t.second))
       go true e k =
           subst (λ u. Answers m q a (split s.mark (meansA t.first) (meansB u))) (sym k.1)
-          (first_asked s.mark q.address q.action (meansA s.first) (meansA t.first) (meansB s.second) (sound_of s.mark t.first s.second) (ltb-true _ _ e) (keepsA.tells s.first q a t.first k.0))
+          (first_asked s.mark q.address q.action (meansA s.first) (meansA t.first) (meansB s.second) (ltb-true _ _ e) (keepsA.tells s.first q a t.first k.0))
       go false e k =
           subst (λ u. Answers m q a (split s.mark (meansA u) (meansB t.second))) (sym k.1)
-          (second_asked s.mark q.address q.action (meansA s.first) (meansB s.second) (meansB t.second) (sound_of s.mark s.first t.second) (ltb-false _ _ e) (keepsB.tells s.second q a t.second k.0))
+          (second_asked s.mark q.address q.action (meansA s.first) (meansB s.second) (meansB t.second) (ltb-false _ _ e) (keepsB.tells s.second q a t.second k.0))
 
   pub split_keeps : Keeps (split_means meansA meansB) (SplitSteps stepsA stepsB)
-  split_keeps = record { sound = λ s. sound_of s.mark s.first s.second; tells = tells }
+  split_keeps = record { sound = λ s. split_sound s.mark (meansA s.first) (meansB s.second) (keepsA.sound s.first) (keepsB.sound s.second); tells = tells }

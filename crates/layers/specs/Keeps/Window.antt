@@ -1,4 +1,4 @@
--- Window keeps the five points. Assumes nothing.
+-- Window means something sound, and its steps keep points 1 to 4 of the bus. Assumes nothing.
 use Rattle.std.specs.Prelude.{◌≡◌, ℕ, ◌+◌, ◌/◌, ◌%◌, ◌^◌, ◌<◌, ◌≤◌, Bool, true, false, cond, ◌⊎◌, MatchBool, nat_lt, refl}
 use Rattle.std.proofs.Common.{inl, inr, sym, ap, subst₂, ◌∙◌, arith}
 use Rattle.std.proofs.lemmas.Bool.{both_ways, cases_Bool, cases_order, false≢true, le-ltb, lt-ltb, ltb-false, ltb-true}
@@ -47,8 +47,8 @@ module _ (base limit address : ℕ) where
   moves_within : (x i : ℕ) → i < 4 → onto base (word_of x + i) ≡ word_of (onto base x) + i
   moves_within x i h = omega arith
 
-  asked : (m m' : Meaning) (y : Action) → Sound m' → address < end limit → {a : Answer} → Answers m (request (onto base address) y) a m' → Answers (window base limit m) (request address y) a (window base limit m')
-  asked m m' y sound l h =
+  asked : (m m' : Meaning) (y : Action) → address < end limit → {a : Answer} → Answers m (request (onto base address) y) a m' → Answers (window base limit m) (request address y) a (window base limit m')
+  asked m m' y l h =
       layer (
       record {
         through =
@@ -61,7 +61,6 @@ module _ (base limit address : ℕ) where
             };
         seen = λ x. seen x (cases_Bool (nat_lt x (end limit)));
         waits = λ e. rw (below l address refl);
-        within = (window_sound base limit m' sound).waits;
         unreadable = λ w. ap (λ b. cond (nat_lt w (end limit)) b true) (h.unreadable (onto base w));
         unwritable = λ w. ap (λ b. cond (nat_lt w (end limit)) b true) (h.unwritable (onto base w));
         longest = h.longest;
@@ -93,13 +92,12 @@ module _ (base limit address : ℕ) where
   leaves m action.Read l x = rw (above l address refl, above l (word_of address) (omega arith))
   leaves m (action.Write w d) l x = rw (above l address refl, above l (word_of address) (omega arith))
 
-  refused : (m : Meaning) (y : Action) → Sound m → end limit ≤ address → Answers (window base limit m) (request address y) BusError (window base limit m)
-  refused m y sound l =
+  refused : (m : Meaning) (y : Action) → end limit ≤ address → Answers (window base limit m) (request address y) BusError (window base limit m)
+  refused m y l =
       record {
         answered = refuses m y l;
         bytes = leaves m y l;
         counted = λ t. absurd (false≢true (rw (above l address refl) at t));
-        within = (window_sound base limit m sound).waits;
         unreadable = λ w. refl;
         unwritable = λ w. refl;
         longest = refl;
@@ -118,10 +116,10 @@ module _ {A : Type 0} {means : A → Meaning} {steps : A → Request → Answer 
 
       go : (b : Bool) → nat_lt q.address (end s.limit) ≡ b → MatchBool b (steps s.below to a t.below) ((a ≡ BusError) × (t.below ≡ s.below)) → Answers m q a (window s.base s.limit (means t.below))
       go true e k =
-          asked s.base s.limit q.address (means s.below) (means t.below) q.action (keeps.sound t.below) (ltb-true _ _ e) (keeps.tells s.below to a t.below k)
+          asked s.base s.limit q.address (means s.below) (means t.below) q.action (ltb-true _ _ e) (keeps.tells s.below to a t.below k)
       go false e k =
           subst₂ (λ x u. Answers m q x (window s.base s.limit (means u))) (sym k.0) (sym k.1)
-          (refused s.base s.limit q.address (means s.below) q.action (keeps.sound s.below) (ltb-false _ _ e))
+          (refused s.base s.limit q.address (means s.below) q.action (ltb-false _ _ e))
 
   pub window_keeps : Keeps (window_means means) (WindowSteps steps)
   window_keeps = record { sound = λ s. window_sound s.base s.limit (means s.below) (keeps.sound s.below); tells = tells }

@@ -1,4 +1,4 @@
--- RAM, ROM and scratch keep the five points. Assumes nothing.
+-- RAM, ROM and scratch mean something sound, and their steps keep points 1 to 4 of the bus. Assumes nothing.
 use Rattle.std.specs.Prelude.{◌≡◌, ℕ, ◌%◌, ◌<◌, Bool, true, false, cond, List, length, refl}
 use Rattle.std.proofs.Common.{ap₂, ◌∙◌, arith}
 use Rattle.std.proofs.lemmas.Bool.{false≢true}
@@ -25,7 +25,6 @@ ram_tells h =
       answered = h.answered;
       bytes = h.holds;
       counted = λ e. absurd (false≢true e);
-      within = λ x. omega arith;
       unreadable = λ w. ap₂ (λ b n. outside b n w) h.based h.sized;
       unwritable = λ w. ap₂ (λ b n. outside b n w) h.based h.sized;
       longest = refl;
@@ -48,7 +47,6 @@ rom_tells {base} {base'} {bytes} {bytes'} {q} {a} h =
       answered = h.2;
       bytes = λ at. ap₂ (λ b l. held b l at) h.0 h.1 ∙ unchanged base bytes q.address q.action at;
       counted = λ e. absurd (false≢true e);
-      within = λ x. omega arith;
       unreadable = λ w. ap₂ (λ b l. outside b (length l) w) h.0 h.1;
       unwritable = λ w. refl;
       longest = refl;
