@@ -1,4 +1,5 @@
 pub mod Keeps
+pub mod Lent
 pub mod Placement
 pub mod Ram
 pub mod Region

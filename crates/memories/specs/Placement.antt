@@ -12,9 +12,16 @@ number OutOfBounds = 7
 abbrev pub aligned : ℕ → ℕ → Bool
 aligned base n = base % 4 == 0 && n % 4 == 0
 
--- the length is from 4 to 1,048,576, and the range ends within the 2 ^ 32 addresses
+-- the shortest and the longest memory, in bytes
+abbrev pub min_length : ℕ
+min_length = 4
+
+abbrev pub max_length : ℕ
+max_length = 1048576
+
+-- the length is from min_length to max_length, and the range ends within the 2 ^ 32 addresses
 abbrev pub bounded : ℕ → ℕ → Bool
-bounded base n = nat_le 4 n && nat_le n 1048576 && nat_le (base + n) (2 ^ 32)
+bounded base n = nat_le min_length n && nat_le n max_length && nat_le (base + n) (2 ^ 32)
 
 -- alignment is tried first
 abbrev pub placement : ℕ → ℕ → Result (Unit {0}) Misplaced

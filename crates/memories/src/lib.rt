@@ -2,6 +2,7 @@
 
 #![tactic(auto)]
 
+pub mod lent;
 pub mod placement;
 pub mod ram;
 mod region;

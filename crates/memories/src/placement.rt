@@ -3,6 +3,9 @@
 ghost use Rattle.std.specs.Prelude.{◌≡◌};
 ghost use Rattle.memories.specs.Placement.{number, placed_length, placement};
 
+/// The shortest memory, in bytes.
+pub const MIN_LENGTH: usize = 4;
+
 /// The longest memory, in bytes.
 pub const MAX_LENGTH: usize = 1_048_576;
 
@@ -11,7 +14,7 @@ pub const MAX_LENGTH: usize = 1_048_576;
 pub enum Misplaced {
     /// The base or the length is no multiple of 4.
     Unaligned = 6,
-    /// The length is outside 4 to 1,048,576, or the range ends beyond the last address.
+    /// The length is outside `MIN_LENGTH` to `MAX_LENGTH`, or the range ends beyond the last address.
     OutOfBounds = 7,
 }
 
@@ -29,7 +32,7 @@ pub fn check_placement(base: u32, length: usize) -> Result<(), Misplaced>
     ensures { result ≡ placement base length }
 {
     let unaligned = base % 4 != 0 || length % 4 != 0;
-    let too_long = length < 4 || length > MAX_LENGTH || base as usize + length > 1 << 32;
+    let too_long = length < MIN_LENGTH || length > MAX_LENGTH || base as usize + length > 1 << 32;
     if unaligned {
         Err(Misplaced::Unaligned)
     } else if too_long {

@@ -1,11 +1,11 @@
 //! RAM: the caller's bytes at a base.
 
-ghost use Rattle.std.specs.Prelude.{◌≡◌, ◌-◌};
+ghost use Rattle.std.specs.Prelude.{◌≡◌, ◌-◌, length};
 ghost use Rattle.bus.specs.Request.{word_of, first, writing};
 ghost use Rattle.memories.specs.Keeps.Region.{ram_keeps};
 ghost use Rattle.memories.specs.Placement.{placed};
 ghost use Rattle.memories.specs.Ram.{RamSteps, ram_means};
-ghost use Rattle.memories.specs.Region.{ram};
+ghost use Rattle.memories.specs.Region.{Moves, ram};
 
 use super::placement::placed_length;
 use super::region::{LONGEST_WAIT, Region};
@@ -33,12 +33,19 @@ fn lane(width: Width, address: u32) -> usize
 impl<'a> Ram<'a> {
     /// RAM that stands at `base`; one at a denied placement refuses everything.
     pub fn new(base: u32, bytes: &'a mut [u8]) -> Ram<'a>
-        ensures { ram_means result ≡ ram base (placed base bytes.old) }
+        ensures means { ram_means result ≡ ram base (placed base bytes.old) }
+        ensures base { result.base ≡ base }
+        ensures bytes { result.bytes.now ≡ placed base bytes.old }
+        ensures same_reference { length (placed base bytes.old) ≡ length bytes.old → result.bytes.ghost_name ≡ bytes.entry.ghost_name }
     {
         let length = placed_length(base, bytes.len());
-        Ram {
-            base,
-            bytes: &mut bytes[..length],
+        if length == bytes.len() {
+            Ram { base, bytes }
+        } else {
+            Ram {
+                base,
+                bytes: &mut [],
+            }
         }
     }
 }
@@ -56,7 +63,7 @@ impl Ram<'_> {
 
     fn write(&mut self, width: Width, address: u32, data: u32) -> Answer
         ensures same_reference { self.new.bytes.ghost_name ≡ self.old.bytes.ghost_name }
-        ensures moves { RamSteps self.old (writing width address «data») result self.new }
+        ensures moves { Moves self.old.base self.old.bytes.now (writing width address «data») result self.new.base self.new.bytes.now }
     {
         let Some(at) = self.region().offset(address) else {
             return Answer::BusError;
@@ -82,7 +89,7 @@ impl Ram<'_> {
     /// One request of bytes that can be read and written.
     pub(crate) fn answer(&mut self, q: Request) -> Answer
         ensures same_reference { self.new.bytes.ghost_name ≡ self.old.bytes.ghost_name }
-        ensures moves { RamSteps self.old q result self.new }
+        ensures moves { Moves self.old.base self.old.bytes.now q result self.new.base self.new.bytes.now }
     {
         match q.action {
             Action::Read => self.region().read(q.address),

@@ -1,5 +1,6 @@
 //! Examples at the edges of every range.
 
+use super::lent::replace_word;
 use super::placement::{Misplaced, check_placement};
 use super::ram::Ram;
 use super::rom::Rom;
@@ -31,6 +32,16 @@ fn ram_at_its_edges(rt: HostRuntime) {
     assert!(rt; ram.request(Request::read(0x107)) == Answer::Done(0xABCD_EE55));
     assert_eq!(rt; ram.look(0x107), Some(0xAB));
     assert_eq!(rt; ram.look(0x108), None);
+}
+
+#[test]
+fn lent_bytes_come_back(rt: HostRuntime) {
+    let mut bytes = [0x11, 0x22, 0x33, 0x44, 0x55, 0x66, 0x77, 0x88];
+    assert!(rt; replace_word(0x100, &mut bytes, 0x106, 0x0A0B_0C0D) == Some(0x8877_6655));
+    assert!(rt; bytes == [0x11, 0x22, 0x33, 0x44, 0x0D, 0x0C, 0x0B, 0x0A]);
+    assert!(rt; replace_word(0x100, &mut bytes, 0x108, 0).is_none());
+    assert!(rt; replace_word(0x102, &mut bytes, 0x104, 0).is_none());
+    assert!(rt; bytes == [0x11, 0x22, 0x33, 0x44, 0x0D, 0x0C, 0x0B, 0x0A]);
 }
 
 #[test]

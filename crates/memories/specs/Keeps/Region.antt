@@ -53,7 +53,7 @@ rom_tells {base} {base'} {bytes} {bytes'} {q} {a} h =
     }
 
 pub ram_keeps : Keeps ram_means RamSteps
-ram_keeps = record { sound = λ s. ram_sound _ _; tells = λ s q a t h. ram_tells h }
+ram_keeps = record { sound = λ s. ram_sound _ _; tells = λ s q a t h. ram_tells h.1 }
 
 pub rom_keeps : Keeps rom_means RomSteps
 rom_keeps = record { sound = λ s. rom_sound _ _; tells = λ s q a t h. rom_tells h }
