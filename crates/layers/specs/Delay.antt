@@ -1,50 +1,51 @@
 -- Delay: a memory that answers later. Assumes nothing.
-use Rattle.std.specs.Prelude.{◌≡◌, ℕ, ◌+◌, ◌-◌, min, cond, MatchBool, Some, None, Option, nat_lt}
-use Rattle.bus.specs.Meaning.{Meaning}
+use Rattle.std.specs.Prelude.{◌≡◌, ℕ, ◌+◌, ◌-◌, min, cond, MatchBool, nat_lt}
+use Rattle.bus.specs.Meaning.{Meaning, max_wait}
 use Rattle.bus.specs.Request.{access_of, same}
 use Rattle.layers.specs.declared.delay.Delay.{Delay}
-use Rattle.layers.specs.declared.delay.Counting.{Counting}
+use Rattle.layers.specs.declared.delay.State.{State}
+use Rattle.layers.specs.declared.delay.State.TheVariants.{Idle, Counting}
 use Rattle.bus.specs.declared.request.Access.{Access}
 use Rattle.bus.specs.declared.request.Answer.{Answer}
 use Rattle.bus.specs.declared.request.Answer.TheVariants.{Wait, BusError, Done}
 use Rattle.bus.specs.declared.request.Request.{Request}
 
--- n, lowered where W below and n together would pass 65,535
+-- n, lowered where W below and n together would pass max_wait
 abbrev pub lowered : ℕ → ℕ → ℕ
-lowered n longest = min n (65535 - longest)
+lowered n longest = min n (max_wait - longest)
 
 -- the count at which a request goes on: its own where it is the counted one, else n; no count is above n
-abbrev pub left : ℕ → Option Counting → Access → ℕ
-left n None x = n
-left n (Some c) x = cond (same c.access x) (min c.count n) n
+abbrev pub left : ℕ → State → Access → ℕ
+left n Idle x = n
+left n (Counting access count) x = cond (same access x) (min count n) n
 
 -- the delay's own waits come before those of the memory below, and W grows by n
-abbrev pub delay : ℕ → Option Counting → Meaning → Meaning
-delay n counting m =
+abbrev pub delay : ℕ → State → Meaning → Meaning
+delay n state m =
     record {
       byte = m.byte;
       unreadable = m.unreadable;
       unwritable = m.unwritable;
-      waits = λ x. left (lowered n m.longest) counting x + m.waits x;
+      waits = λ x. left (lowered n m.longest) state x + m.waits x;
       longest = m.longest + lowered n m.longest;
     }
 
--- what is counted for once the memory below has answered: done and bus error make the delay idle
-abbrev pub ended : Access → Answer → Option Counting
-ended x Wait = Some (record { access = x; count = 0 })
-ended x BusError = None
-ended x (Done v) = None
+-- the state once the memory below has answered: wait keeps counting at 0, done and bus error make the delay idle
+abbrev pub ended : Access → Answer → State
+ended x Wait = Counting x 0
+ended x BusError = Idle
+ended x (Done v) = Idle
 
 abbrev pub delay_means : {A : Type 0} → (A → Meaning) → Delay A → Meaning
-delay_means means s = delay s.n s.counting (means s.below)
+delay_means means s = delay s.n s.state (means s.below)
 
 -- how a delay goes on at a count: above 0 the answer is wait and the count falls by one; at 0 the memory below is asked
 abbrev pub DelayStepsAt : {A : Type 0} → (A → Request → Answer → A → Type 0) → ℕ → Delay A → Request → Answer → Delay A → Type 0
 DelayStepsAt steps count s q a t =
     (t.n ≡ s.n)
     × MatchBool (nat_lt 0 count)
-    ((a ≡ Wait) × (t.counting ≡ Some (record { access = access_of q; count = count - 1 })) × (t.below ≡ s.below))
-    (steps s.below q a t.below × (t.counting ≡ ended (access_of q) a))
+    ((a ≡ Wait) × (t.state ≡ Counting (access_of q) (count - 1)) × (t.below ≡ s.below))
+    (steps s.below q a t.below × (t.state ≡ ended (access_of q) a))
 
 abbrev pub DelaySteps : {A : Type 0} → (A → Meaning) → (A → Request → Answer → A → Type 0) → Delay A → Request → Answer → Delay A → Type 0
-DelaySteps means steps s q a t = DelayStepsAt steps (left (lowered s.n (means s.below).longest) s.counting (access_of q)) s q a t
+DelaySteps means steps s q a t = DelayStepsAt steps (left (lowered s.n (means s.below).longest) s.state (access_of q)) s q a t

@@ -1,55 +1,45 @@
 //! Delay: a memory that answers later.
 
-ghost use Rattle.std.specs.Prelude.{◌≡◌, None};
-ghost use Rattle.layers.specs.Delay.{DelaySteps, delay, delay_means, left, lowered};
+ghost use Rattle.std.specs.Prelude.{◌≡◌};
+ghost use Rattle.layers.specs.Delay.{DelaySteps, delay, delay_means, lowered};
 ghost use Rattle.layers.specs.Keeps.Delay.{delay_keeps};
+ghost use Rattle.layers.specs.declared.delay.State.TheVariants.{Idle};
 
-use bus::memory::Bus;
+use bus::memory::{Bus, MAX_WAIT};
 use bus::request::{Access, Answer, Request};
 
-/// A request that is counted for, and what is left of its count.
+/// Whether a delay counts.
 #[derive(Clone, Copy)]
-pub struct Counting {
-    pub access: Access,
-    pub count: u8,
+pub enum State {
+    Idle,
+    /// For one request, with what is left of its count.
+    Counting { access: Access, left: u8 },
 }
 
 #[derive(Drop)]
 pub struct Delay<B> {
     n: u8,
-    /// None while the delay is idle.
-    counting: Option<Counting>,
+    state: State,
     below: B,
 }
 
 impl<B: Bus> Delay<B> {
     /// Lets each request wait `n` times more.
     pub fn new(n: u8, below: B) -> Delay<B>
-        ensures { delay_means B.Bus.means result ≡ delay n None (B.Bus.means below) }
+        ensures { delay_means B.Bus.means result ≡ delay n Idle (B.Bus.means below) }
     {
         Delay {
             n,
-            counting: None,
+            state: State::Idle,
             below,
         }
     }
 
-    /// `n`, lowered where the longest wait would pass 65,535.
+    /// `n`, lowered where the longest wait would pass `MAX_WAIT`.
     fn own_waits(&self) -> u8
         ensures { result ≡ lowered self.now.n (B.Bus.means self.now.below).longest }
     {
-        u16::from(self.n).min(u16::MAX - self.below.longest_wait()) as u8
-    }
-
-    /// The count at which a request goes on.
-    fn left(&self, asked: Access) -> u8
-        ensures { result ≡ left (lowered self.now.n (B.Bus.means self.now.below).longest) self.now.counting asked }
-    {
-        let n = self.own_waits();
-        match (self.counting, asked) {
-            (Some(counting), asked) if counting.access.same(asked) => counting.count.min(n),
-            _ => n,
-        }
+        u16::from(self.n).min(MAX_WAIT - self.below.longest_wait()) as u8
     }
 }
 
@@ -61,21 +51,32 @@ impl<B: Bus> Bus for Delay<B> {
     ghost keeps = { delay_keeps B.Bus.keeps };
 
     fn request(&mut self, q: Request) -> Answer {
-        let asked = q.access();
-        let left = self.left(asked);
-        if left > 0 {
-            self.counting = Some(Counting {
-                access: asked,
-                count: left - 1,
-            });
-            return Answer::Wait;
+        let n = self.own_waits();
+        // The counted request goes on at the count that stands, any other starts it at n.
+        match (&mut self.state, q.access()) {
+            (State::Counting { access, left }, asked) if access.same(asked) => {
+                *left = (*left).min(n);
+            }
+            (state, asked) => {
+                *state = State::Counting {
+                    access: asked,
+                    left: n,
+                };
+            }
         }
-        let answer = self.below.request(q);
-        self.counting = (answer == Answer::Wait).then_some(Counting {
-            access: asked,
-            count: 0,
-        });
-        answer
+        match &mut self.state {
+            State::Counting { left, .. } if *left > 0 => {
+                *left -= 1;
+                Answer::Wait
+            }
+            state => {
+                let answer = self.below.request(q);
+                if answer != Answer::Wait {
+                    *state = State::Idle;
+                }
+                answer
+            }
+        }
     }
 
     fn look(&self, address: u32) -> Option<u8> {

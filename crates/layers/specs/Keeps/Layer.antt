@@ -4,7 +4,6 @@ use Rattle.std.proofs.Common.{inl, inr, sym, ◌∙◌, add-zero, arith}
 use Rattle.std.proofs.lemmas.Bool.{and_right, cases_eq, cases_lt, le-leb, le-ltb, lt-leb}
 use Rattle.bus.specs.Meaning.{Answers, Meaning, after, answer, carried, refused, stalled, stored, word_at, written}
 use Rattle.bus.specs.Request.{access_of, first, size, word_of}
-use Rattle.bus.specs.declared.request.Access.{Access}
 use Rattle.bus.specs.declared.request.Action.{Action}
 use Rattle.bus.specs.declared.request.Action.TheVariants as action
 use Rattle.bus.specs.declared.request.Answer.{Answer}
