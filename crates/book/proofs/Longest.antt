@@ -76,10 +76,6 @@ bound b (Event.exception c) = lasts tt
 bound b Event.interrupt = lasts tt
 bound b Event.run = long_bound (decoded b.regs.ir) (risen b)
 
--- every step takes some
-pub some_length : (b : Book) (v : Event) → 0 < length_of b v
-some_length b v = (bound b v).some
-
 -- BGEZAL of register 0
 linking : Book
 linking =
@@ -93,4 +89,4 @@ linking =
 
 pub longest : LongestStep 7
 unfolding linking
-longest = record { bounded = λ b v. (bound b v).most; reached = (linking, Event.run, refl) }
+longest = record { some = λ b v. (bound b v).some; bounded = λ b v. (bound b v).most; reached = (linking, Event.run, refl) }

@@ -1,5 +1,5 @@
 -- How many cycles a step takes, as a table. Assumes nothing.
-use Rattle.std.specs.Prelude.{◌≡◌, ℕ, ◌≤◌, cond, not, [], ◌∷◌, pos, ◌==◌, int_le, int_lt}
+use Rattle.std.specs.Prelude.{◌≡◌, ℕ, ◌<◌, ◌≤◌, cond, not, [], ◌∷◌, pos, ◌==◌, int_le, int_lt}
 use Rattle.book.specs.Book.{Book, Event, linked, risen}
 use Rattle.book.specs.Instruction.{Instruction, decoded, under}
 use Rattle.rows.specs.Operation.{signed}
@@ -58,7 +58,8 @@ length_of b (Event.exception c) = 4
 length_of b Event.interrupt = 4
 length_of b Event.run = long (decoded b.regs.ir) (risen b)
 
--- no step takes more cycles, and some step takes as many
+-- each step takes a cycle at least, none takes more than so many, and some step takes as many
 pub record LongestStep (n : ℕ) : Type 0 where
+  pub some : (b : Book) (v : Event) → 0 < length_of b v
   pub bounded : (b : Book) (v : Event) → length_of b v ≤ n
   pub reached : (b : Book) × (v : Event) × (length_of b v ≡ n)

@@ -8,14 +8,12 @@ use Rattle.book.specs.Book.{Book, Refusals, begun, step}
 use Rattle.book.specs.Instant.{World, asked, tick, ticks}
 use Rattle.book.specs.Length.{length_of}
 use Rattle.book.specs.Path.{Fit, Stands, Walks, ends_path, stand}
-use Rattle.book.proofs.Fits.{begins, steps_fit}
-use Rattle.book.proofs.Longest.{some_length}
-use Rattle.book.proofs.Steps.{steps_are_paths}
 use Rattle.microprogram.specs.Cycle.{State, advanced, ends, powered}
 use Rattle.r3000.specs.Counts.{counted}
 use Rattle.r3000.specs.Cycle.{Cycle}
 use Rattle.r3000.specs.Machine.{History, Machine, built, fresh, hand, with_lines}
 use Rattle.r3000.specs.Promise.{Agrees, book_after, lengths, refusals}
+use Rattle.r3000.proofs.Below.{Below}
 use Rattle.r3000.proofs.Answered.{fixed, no_tick, one_tick, world}
 use Rattle.r3000.proofs.Successors.{no_lines}
 use Rattle.rows.specs.Rows.{row_at}
@@ -40,7 +38,7 @@ module _ (r : Refusals) where
   unfolding tick
   same_tick l k s e = ap (λ t. record { state = t; bytes = (tick r l s).bytes }) (no_choice (row_at s.state.row) l k _ _ s.state e)
 
-module _ {S : Type 0} {means : S → Meaning} {steps : S → Request → Answer → S → Type 0} (keeps : Keeps means steps) (start : S) where
+module _ {S : Type 0} {means : S → Meaning} {steps : S → Request → Answer → S → Type 0} (below : Below) (keeps : Keeps means steps) (start : S) where
   -- the book after the boundaries of a history
   abbrev book : History → Book
   book h = book_after (means start) h.lines
@@ -51,7 +49,7 @@ module _ {S : Type 0} {means : S → Meaning} {steps : S → Request → Answer 
     pub fit : Fit (book h)
     pub from : World
     pub stands : Stands (book h) from
-    pub ticked : (l : ℕ) → world keeps c ≡ ticks (refusals (means start)) l c.report.place from
+    pub ticked : (l : ℕ) → world below.memory keeps c ≡ ticks (refusals (means start)) l c.report.place from
     pub short : c.report.place < length_of (book h) (book h).event
     pub boundaries : length h.lines ≡ c.report.boundaries
     pub sum : c.report.cycles ≡ c.report.frozen + lengths (means start) h.lines + c.report.place
@@ -59,7 +57,7 @@ module _ {S : Type 0} {means : S → Meaning} {steps : S → Request → Answer 
   pub way_start : OnTheWay fresh (built start)
   unfolding ticks
   way_start =
-      let first : Fit (begun (means start).byte) × Stands (begun (means start).byte) (record { state = powered; bytes = (means start).byte }) = begins (means start).byte (keeps.sound start).bytes in
+      let first : Fit (begun (means start).byte) × Stands (begun (means start).byte) (record { state = powered; bytes = (means start).byte }) = below.begins (means start).byte (keeps.sound start).bytes in
       record {
         refuses = refl;
         fit = first.0;
@@ -77,10 +75,10 @@ module _ {S : Type 0} {means : S → Meaning} {steps : S → Request → Answer 
 
   -- what the words that are refused, and the world, are after a cycle
   still_refuses : (h : History) (c d : Machine S) (f : Bool) → Cycle steps c f d → OnTheWay h c → refusals (means d.pile) ≡ refusals (means start)
-  still_refuses h c d f k w = (fixed keeps c.pile d.pile (asked (hand c.state) c.state) k.answer k.asks).0 ∙ w.refuses
+  still_refuses h c d f k w = (fixed below.memory keeps c.pile d.pile (asked (hand c.state) c.state) k.answer k.asks).0 ∙ w.refuses
 
-  next_tick : (h : History) (c d : Machine S) → Cycle steps c false d → OnTheWay h c → world keeps d ≡ tick (refusals (means start)) c.lines (world keeps c)
-  next_tick h c d k w = one_tick keeps c d k ∙ ap (λ r. tick r c.lines (world keeps c)) w.refuses
+  next_tick : (h : History) (c d : Machine S) → Cycle steps c false d → OnTheWay h c → world below.memory keeps d ≡ tick (refusals (means start)) c.lines (world below.memory keeps c)
+  next_tick h c d k w = one_tick below.memory keeps c d k ∙ ap (λ r. tick r c.lines (world below.memory keeps c)) w.refuses
 
   -- a frozen cycle leaves the core where it is
   way_frozen : (h : History) (c d : Machine S) → Cycle steps c true d → OnTheWay h c → OnTheWay (record { lines = h.lines; since = h.since + 1 }) d
@@ -90,7 +88,7 @@ module _ {S : Type 0} {means : S → Meaning} {steps : S → Request → Answer 
         fit = w.fit;
         from = w.from;
         stands = w.stands;
-        ticked = λ l. no_tick keeps c d k ∙ w.ticked l ∙ ap (λ n. ticks (refusals (means start)) l n.place w.from) (sym k.report);
+        ticked = λ l. no_tick below.memory keeps c d k ∙ w.ticked l ∙ ap (λ n. ticks (refusals (means start)) l n.place w.from) (sym k.report);
         short = subst (λ n. n.place < length_of (book h) (book h).event) (sym k.report) w.short;
         boundaries = w.boundaries ∙ ap (λ n. n.boundaries) (sym k.report);
         sum = subst (λ n. n.cycles ≡ n.frozen + lengths (means start) h.lines + n.place) (sym k.report) (omega (arith, w.sum));
@@ -98,7 +96,7 @@ module _ {S : Type 0} {means : S → Meaning} {steps : S → Request → Answer 
 
   -- the step of the book that is under way
   walking : (h : History) (c : Machine S) (w : OnTheWay h c) → Walks (refusals (means start)) c.lines (book h) w.from
-  walking h c w = steps_are_paths (refusals (means start)) c.lines (book h) w.fit w.from w.stands
+  walking h c w = below.paths (refusals (means start)) c.lines (book h) w.fit w.from w.stands
 
   -- whether this cycle ends it
   ending_here : (h : History) (c : Machine S) (w : OnTheWay h c) → ends (hand c.state).sequencing ≡ ends_path (ticks (refusals (means start)) c.lines c.report.place w.from)
@@ -116,7 +114,7 @@ module _ {S : Type 0} {means : S → Meaning} {steps : S → Request → Answer 
         stands = w.stands;
         ticked = λ l.
             next_tick h c d k w
-            ∙ same_tick (refusals (means start)) c.lines l (world keeps c) e
+            ∙ same_tick (refusals (means start)) c.lines l (world below.memory keeps c) e
             ∙ ap (tick (refusals (means start)) l) (w.ticked l)
             ∙ sym (ticks_more (refusals (means start)) l n w.from)
             ∙ ap (λ p. ticks (refusals (means start)) l p w.from) (sym (add-one n) ∙ ap (λ m. m.place) (sym count));
@@ -136,7 +134,7 @@ module _ {S : Type 0} {means : S → Meaning} {steps : S → Request → Answer 
       let n : ℕ = c.report.place in
       let count : d.report ≡ record { cycles = c.report.cycles + 1; frozen = c.report.frozen; boundaries = c.report.boundaries + 1; place = 0 } = k.report ∙ ap (λ b. counted false b c.report) e in
       let whole : n + 1 ≡ length_of (book h) (book h).event = last (cases_eq (n + 1) (length_of (book h) (book h).event)) in
-      let arrived : world keeps d ≡ ticks (refusals (means start)) c.lines (length_of (book h) (book h).event) w.from =
+      let arrived : world below.memory keeps d ≡ ticks (refusals (means start)) c.lines (length_of (book h) (book h).event) w.from =
       next_tick h c d k w
       ∙ ap (tick (refusals (means start)) c.lines) (w.ticked c.lines)
       ∙ sym (ticks_more (refusals (means start)) c.lines n w.from)
@@ -144,11 +142,11 @@ module _ {S : Type 0} {means : S → Meaning} {steps : S → Request → Answer 
       in
       record {
         refuses = still_refuses h c d false k w;
-        fit = steps_fit (refusals (means start)) c.lines (book h) w.fit;
-        from = world keeps d;
+        fit = below.words (refusals (means start)) c.lines (book h) w.fit;
+        from = world below.memory keeps d;
         stands = subst (λ s. Stands (step (refusals (means start)) c.lines (book h)) s) (sym arrived) (walking h c w).arrives;
-        ticked = λ l. ap (λ p. ticks (refusals (means start)) l p (world keeps d)) (ap (λ m. m.place) (sym count));
-        short = subst (λ m. m.place < length_of (step (refusals (means start)) c.lines (book h)) (step (refusals (means start)) c.lines (book h)).event) (sym count) (some_length (step (refusals (means start)) c.lines (book h)) (step (refusals (means start)) c.lines (book h)).event);
+        ticked = λ l. ap (λ p. ticks (refusals (means start)) l p (world below.memory keeps d)) (ap (λ m. m.place) (sym count));
+        short = subst (λ m. m.place < length_of (step (refusals (means start)) c.lines (book h)) (step (refusals (means start)) c.lines (book h)).event) (sym count) (below.some (step (refusals (means start)) c.lines (book h)) (step (refusals (means start)) c.lines (book h)).event);
         boundaries = ap suc w.boundaries ∙ sym (add-one _) ∙ ap (λ m. m.boundaries) (sym count);
         sum = subst (λ m. m.cycles ≡ m.frozen + lengths (means start) (c.lines ∷ h.lines) + m.place) (sym count) (omega (arith, w.sum));
       }
@@ -169,5 +167,5 @@ module _ {S : Type 0} {means : S → Meaning} {steps : S → Request → Answer 
   pub agrees : (h : History) (c : Machine S) → OnTheWay h c → c.report.place ≡ 0 → Agrees (book h) c.state (means c.pile)
   unfolding ticks
   agrees h c w z =
-      let same : world keeps c ≡ stand (book h) w.stands.dt w.stands.row w.stands.flag = w.ticked 0 ∙ ap (λ n. ticks (refusals (means start)) 0 n w.from) z ∙ w.stands.is in
+      let same : world below.memory keeps c ≡ stand (book h) w.stands.dt w.stands.row w.stands.flag = w.ticked 0 ∙ ap (λ n. ticks (refusals (means start)) 0 n w.from) z ∙ w.stands.is in
       record { regs = ap (λ s. s.state.regs) same; lines = ap (λ s. s.state.lines) same; ledger = ap (λ s. s.state.ledger) same; bytes = λ x. ap (λ s. s.bytes x) same }

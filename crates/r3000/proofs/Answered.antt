@@ -8,8 +8,7 @@ use Rattle.bus.specs.Request.{access_of}
 use Rattle.bus.specs.declared.request.Answer.{Answer}
 use Rattle.bus.specs.declared.request.Answer.TheVariants.{Wait, BusError, Done}
 use Rattle.bus.specs.declared.request.Request.{Request}
-use Rattle.book.specs.Instant.{World, asked, changed, still, tick}
-use Rattle.book.proofs.Still.{still_keeps}
+use Rattle.book.specs.Instant.{StillKeeps, World, asked, changed, still, tick}
 use Rattle.microprogram.specs.Cycle.{advanced, worked}
 use Rattle.rows.specs.declared.row.Row.{Row}
 use Rattle.r3000.specs.Cycle.{Asks, Cycle, freezes}
@@ -37,8 +36,8 @@ stilled m = still (refusals m) m.byte
 pub answers_still : (m : Meaning) (q : Request) → stalled m q ≡ false → answer m q ≡ answer (stilled m) q
 answers_still m q e = rw e
 
-pub bytes_still : (m : Meaning) (q : Request) → stalled m q ≡ false → (x : ℕ) → after m q x ≡ changed (stilled m) (Some q) x
-bytes_still m q e x = (rw e) ∙ sym (still_keeps (refusals m) m.byte q x)
+pub bytes_still : StillKeeps → (m : Meaning) (q : Request) → stalled m q ≡ false → (x : ℕ) → after m q x ≡ changed (stilled m) (Some q) x
+bytes_still memory m q e x = (rw e) ∙ sym (memory (refusals m) m.byte q x)
 
 -- where it is stalled, the bytes stay
 pub bytes_stay : (m : Meaning) (q : Request) → stalled m q ≡ true → (x : ℕ) → after m q x ≡ m.byte x
@@ -49,12 +48,12 @@ abbrev pub waiting : Meaning → Option Request → ℕ
 waiting m None = 0
 waiting m (Some q) = m.waits (access_of q)
 
-module _ {S : Type 0} {means : S → Meaning} {steps : S → Request → Answer → S → Type 0} (keeps : Keeps means steps) where
+module _ {S : Type 0} {means : S → Meaning} {steps : S → Request → Answer → S → Type 0} (memory : StillKeeps) (keeps : Keeps means steps) where
   -- a request that was answered by something else than wait
   pub unfrozen : (s t : S) (o : Option Request) (a : Option Answer) → Asks steps s o a t → false ≡ freezes a
       → (a ≡ option_map (answer (stilled (means s))) o) × ((means t).byte ≡ changed (stilled (means s)) o)
   unfrozen s t None a h e = (h.0, ap (λ p. (means p).byte) h.1)
-  unfrozen s t (Some q) a h e = (h.1 ∙ ap Some (told.answered ∙ answers_still (means s) q free), fun_ext (λ x. told.bytes x ∙ bytes_still (means s) q free x))
+  unfrozen s t (Some q) a h e = (h.1 ∙ ap Some (told.answered ∙ answers_still (means s) q free), fun_ext (λ x. told.bytes x ∙ bytes_still memory (means s) q free x))
     where
       told : Answers (means s) q h.0 (means t)
       told = keeps.tells s q h.0 t h.2

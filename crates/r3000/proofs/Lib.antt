@@ -1,6 +1,10 @@
 mod Agreement
 mod Answered
+mod Below
 mod Law
-pub mod Played
+mod Played
 mod Promptness
 mod Successors
+mod Tests
+mod Upheld
+mod Zero

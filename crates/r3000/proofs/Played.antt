@@ -1,89 +1,66 @@
--- Calls on a core that was reached: every core on the way is reached, and the promise holds of it. Assumes nothing.
-use Rattle.std.proofs.Common.{◌≡◌, ℕ, zero, suc, Bool, true, false, cond, ltb, List, [], ◌∷◌, ◌++◌, Ok, Err, Result, sym, refl, subst}
-use Rattle.std.proofs.lemmas.Bool.{ltb-false}
-use Rattle.bus.specs.Meaning.{Keeps, Meaning}
+-- Calls of a list: one more. Assumes nothing.
+use Rattle.std.proofs.Common.{◌≡◌, ℕ, zero, suc, ◌+◌, ◌<◌, List, [], ◌∷◌, ◌++◌, length, get_or, drop, Some, Ok, Err, Result, sym, refl, ap, ◌∙◌, subst, add-one, drop-cons}
+use Rattle.bus.specs.Meaning.{Meaning}
 use Rattle.bus.specs.declared.request.Answer.{Answer}
 use Rattle.bus.specs.declared.request.Request.{Request}
-use Rattle.r3000.specs.Calls.{Checked, Clocks, Runs, check_cycles, check_run, lines_set}
-use Rattle.r3000.specs.Core.{Anything}
-use Rattle.r3000.specs.Cycle.{Cycle, Cycles}
-use Rattle.r3000.specs.Machine.{Machine, built, with_lines}
-use Rattle.r3000.specs.Played.{Called, Played, Promised}
+use Rattle.r3000.specs.Calls.{Checked, Runs, check_run}
+use Rattle.r3000.specs.Cycle.{Cycles}
+use Rattle.r3000.specs.Machine.{Machine}
+use Rattle.r3000.specs.Played.{Called, Played}
+use Rattle.r3000.specs.Promise.{Promised, Upholds}
 use Rattle.r3000.specs.Reached.{Reached}
 use Rattle.r3000.specs.declared.call.Call.{Call}
 use Rattle.r3000.specs.declared.call.Call.TheVariants as call
+use Rattle.r3000.specs.declared.call.Exchange.{Exchange}
 use Rattle.r3000.specs.declared.call.Reply.{Reply}
 use Rattle.r3000.specs.declared.denial.Denial.{Denial}
-use Rattle.r3000.specs.declared.report.Clocked.{Clocked}
 use Rattle.r3000.specs.declared.report.Report.{Report}
-use Rattle.r3000.proofs.Law.{kept}
 
-module _ {S : Type 0} {means : S → Meaning} {steps : S → Request → Answer → S → Type 0} (keeps : Keeps means steps) (start : S) where
-  -- the promise, where a core is reached
-  pub promised : (c : Machine S) → Reached steps start c → Promised means steps start c
-  promised c r = record { reached = r; promise = kept keeps start c r }
+-- what is said of the core after each cycle inside a run can be something that follows from it
+module _ {S : Type 0} (means : S → Meaning) (steps : S → Request → Answer → S → Type 0) {says tells : Machine S → Type 0} (follows : (m : Machine S) → says m → tells m) where
+  cycles : (n : ℕ) (c d : Machine S) → Cycles steps says n c d → Cycles steps tells n c d
+  cycles zero c d h = h
+  cycles (suc n) c d h = (h.0, h.1, cycles n c h.0 h.2, h.3, follows d h.4)
 
-  pub begins : Promised means steps start (built start)
-  begins = promised (built start) Reached.power_up
-
-  -- a core that stays as it is
-  pub same : (c d : Machine S) → d ≡ c → Reached steps start c → Reached steps start d
-  same c d e r = subst (λ m. Reached steps start m) (sym e) r
-
-  -- each cycle of a run
-  cycles : (n : ℕ) (c d : Machine S) → Reached steps start c → Cycles steps Anything n c d → Cycles steps (Promised means steps start) n c d × Reached steps start d
-  cycles zero c d r h = (h, same c d h r)
-  cycles (suc n) c d r h =
-      let before : Cycles steps (Promised means steps start) n c h.0 × Reached steps start h.0 = cycles n c h.0 r h.2 in
-      let here : Reached steps start d = Reached.cycle h.0 d h.1 before.1 h.3 in
-      ((h.0, h.1, before.0, h.3, promised d here), here)
-
-  clocks : (c d : Machine S) (q : Result Clocked Denial) → Reached steps start c → Clocks steps c q d → Reached steps start d
-  clocks c d q r h = by (check_cycles 1 c.report) h
+  pub runs : (n : ℕ) (c d : Machine S) (q : Result Report Denial) → Runs steps says n c q d → Runs steps tells n c q d
+  runs n c d q h = by (check_run n c.report) h
     where
-      by : (o : Result (Unit {0}) Denial) → Checked o c q d ((frozen : Bool) × Cycle steps c frozen d × (q ≡ Ok (record { frozen = frozen; report = d.report }))) → Reached steps start d
-      by (Err e) h = same c d h.1 r
-      by (Ok _) h = Reached.cycle c d h.0 r h.1
+      by : (o : Result (Unit {0}) Denial) → Checked o c q d (Cycles steps says n c d × (q ≡ Ok d.report)) → Checked o c q d (Cycles steps tells n c d × (q ≡ Ok d.report))
+      by (Err e) h = h
+      by (Ok _) h = (cycles n c d h.0, h.1)
 
-  pub runs : (n : ℕ) (c d : Machine S) (q : Result Report Denial) → Reached steps start c → Runs steps Anything n c q d → Runs steps (Promised means steps start) n c q d × Reached steps start d
-  runs n c d q r h = by (check_run n c.report) h
-    where
-      by : (o : Result (Unit {0}) Denial) → Checked o c q d (Cycles steps Anything n c d × (q ≡ Ok d.report)) → Checked o c q d (Cycles steps (Promised means steps start) n c d × (q ≡ Ok d.report)) × Reached steps start d
-      by (Err e) h = (h, same c d h.1 r)
-      by (Ok _) h = let all : Cycles steps (Promised means steps start) n c d × Reached steps start d = cycles n c d r h.0 in ((all.0, h.1), all.1)
+  calls : (c d : Machine S) (x : Call) (r : Result Reply Denial) → Called means steps says c x r d → Called means steps tells c x r d
+  calls c d call.Clock r h = h
+  calls c d (call.Run n) r h = (h.0, h.1, runs n c d h.0 h.2)
+  calls c d (call.Lines n) r h = h
+  calls c d (call.Register n) r h = h
+  calls c d call.Snapshot r h = h
+  calls c d (call.Ledger n) r h = h
+  calls c d (call.Look a) r h = h
 
-  pub sets : (n : ℕ) (c : Machine S) → Reached steps start c → Reached steps start (lines_set n c)
-  sets n c r = by (ltb 127 n) refl
-    where
-      by : (t : Bool) → ltb 127 n ≡ t → Reached steps start (cond t c (with_lines n c))
-      by true e = r
-      by false e = Reached.set_lines c n (ltb-false 127 n e) r
-
-  -- each call
-  pub calls : (c d : Machine S) (x : Call) (r : Result Reply Denial) → Reached steps start c → Called means steps Anything c x r d → Called means steps (Promised means steps start) c x r d × Reached steps start d
-  calls c d call.Clock r reached h = (h, clocks c d h.0 reached h.2)
-  calls c d (call.Run n) r reached h =
-      let all = runs n c d h.0 reached h.2 in ((h.0, h.1, all.0), all.1)
-  calls c d (call.Lines n) r reached h = (h, same (lines_set n c) d h.1 (sets n c reached))
-  calls c d (call.Register n) r reached h = (h, same c d h.1 reached)
-  calls c d call.Snapshot r reached h = (h, same c d h.1 reached)
-  calls c d (call.Ledger n) r reached h = (h, same c d h.1 reached)
-  calls c d (call.Look a) r reached h = (h, same c d h.1 reached)
-
+module _ {S : Type 0} (means : S → Meaning) (steps : S → Request → Answer → S → Type 0) where
   -- one call more
-  pub plays_more : (c b d : Machine S) (xs : List Call) (rs : List (Result Reply Denial)) (x : Call) (r : Result Reply Denial) → Played means steps (Promised means steps start) c xs rs b → Reached steps start b → Called means steps Anything b x r d
-      → Played means steps (Promised means steps start) c (xs ++ x ∷ []) (rs ++ r ∷ []) d × Reached steps start d
-  plays_more c b d xs rs x r h reached k = (after xs rs c h, last.1)
+  pub plays_more : (start : S) (c b d : Machine S) (xs ys : List Exchange) (x : Exchange) (r : Result Reply Denial)
+      → Played means steps (Promised means steps start) c xs ys b → Reached steps start b → Called means steps (Upholds means steps b) b x.call r d → Upholds means steps b d
+      → Played means steps (Promised means steps start) c (xs ++ x ∷ []) (ys ++ record { call = x.call; reply = Some r } ∷ []) d
+  plays_more start c b d xs ys x r h reached k up = after xs ys c h
     where
-      last : Called means steps (Promised means steps start) b x r d × Reached steps start d
-      last = calls b d x r reached k
+      last : Called means steps (Promised means steps start) b x.call r d
+      last = calls means steps (λ m u. u start reached) b d x.call r k
 
-      after : (xs : List Call) (rs : List (Result Reply Denial)) (c : Machine S) → Played means steps (Promised means steps start) c xs rs b → Played means steps (Promised means steps start) c (xs ++ x ∷ []) (rs ++ r ∷ []) d
-      after [] [] c h = (d, subst (λ m. Called means steps (Promised means steps start) m x r d) h last.0, promised d last.1, refl)
+      after : (xs ys : List Exchange) (c : Machine S) → Played means steps (Promised means steps start) c xs ys b
+          → Played means steps (Promised means steps start) c (xs ++ x ∷ []) (ys ++ record { call = x.call; reply = Some r } ∷ []) d
+      after [] [] c h = (d, r, refl, subst (λ m. Called means steps (Promised means steps start) m x.call r d) h last, up start reached, refl)
       after [] (q ∷ rs) c h = absurd h
       after (y ∷ xs) [] c h = absurd h
-      after (y ∷ xs) (q ∷ rs) c h = (h.0, h.1, h.2, after xs rs h.0 h.3)
+      after (y ∷ xs) (q ∷ rs) c h = (h.0, h.1, h.2, h.3, h.4, after xs rs h.0 h.5)
 
-  -- no call yet
-  pub none_played : (rs : List (Result Reply Denial)) (c : Machine S) → rs ≡ [] → c ≡ built start → Played means steps (Promised means steps start) (built start) [] rs c × Reached steps start c
-  none_played rs c e h = (subst (λ rs. Played means steps (Promised means steps start) (built start) [] rs c) (sym e) h, same (built start) c h Reached.power_up)
+-- lists that have the same elements from a place on have the same one there, and the same ones behind it
+pub same_rest : {A : Type 0} (xs ys : List A) (i : ℕ) (d : A) → i < length xs → i < length ys → drop i xs ≡ drop i ys → (get_or xs i d ≡ get_or ys i d) × (drop (i + 1) xs ≡ drop (i + 1) ys)
+same_rest {A} xs ys i d h k e = parts (sym (drop-cons xs i d h) ∙ e ∙ drop-cons ys i d k)
+  where
+    parts : get_or xs i d ∷ drop (suc i) xs ≡ get_or ys i d ∷ drop (suc i) ys → (get_or xs i d ≡ get_or ys i d) × (drop (i + 1) xs ≡ drop (i + 1) ys)
+    parts f = (cc, ap (λ n. drop n xs) (add-one i) ∙ rest ∙ ap (λ n. drop n ys) (sym (add-one i)))
+      where
+        rest : drop (suc i) xs ≡ drop (suc i) ys
+        rest = cc

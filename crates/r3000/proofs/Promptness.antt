@@ -6,15 +6,17 @@ use Rattle.bus.specs.declared.request.Access.{Access}
 use Rattle.bus.specs.declared.request.Answer.{Answer}
 use Rattle.bus.specs.declared.request.Request.{Request}
 use Rattle.book.specs.Instant.{asked}
-use Rattle.microprogram.proofs.Ends.{left, right, rows_end}
 use Rattle.microprogram.specs.Bounds.{accesses, all, ending, successors}
 use Rattle.microprogram.specs.Cycle.{State, access, ends, requested}
 use Rattle.microprogram.specs.Registers.{Regs}
 use Rattle.microprogram.specs.declared.fault.Fault.{Fault}
 use Rattle.r3000.specs.Cycle.{Cycle}
 use Rattle.r3000.specs.Machine.{History, Machine, built, hand, with_lines}
+use Rattle.r3000.specs.Promise.{latest}
 use Rattle.r3000.proofs.Answered.{fixed, frozen, waiting}
+use Rattle.r3000.proofs.Below.{Below}
 use Rattle.r3000.proofs.Successors.{follows}
+use Rattle.r3000.proofs.Tests.{left, right}
 use Rattle.rows.specs.declared.row.Transfer.{Transfer}
 use Rattle.rows.specs.declared.row.Transfer.TheVariants as m
 
@@ -61,7 +63,7 @@ unfolding ending
 rest zero touch c h e = absurd h
 rest (suc rows) touch c h e = (rows, omega arith, apart (ends (hand c).sequencing) _ (right (leb (touches c) touch) _ h) e)
 
-module _ {S : Type 0} {means : S → Meaning} {steps : S → Request → Answer → S → Type 0} (keeps : Keeps means steps) (start : S) where
+module _ {S : Type 0} {means : S → Meaning} {steps : S → Request → Answer → S → Type 0} (below : Below) (keeps : Keeps means steps) (start : S) where
   -- the rows of the way to the boundary, its accesses, and that all of it is near
   pub record Soon (since : ℕ) (c : Machine S) : Type 0 where
     pub longest : (means c.pile).longest ≡ (means start).longest
@@ -89,7 +91,7 @@ module _ {S : Type 0} {means : S → Meaning} {steps : S → Request → Answer 
 
   -- a boundary, and power-up
   anew : (c : Machine S) → (means c.pile).longest ≡ (means start).longest → c.state.row < 1024 → Soon 0 c
-  anew c longest row = comes 0 c longest row 7 2 (right _ _ (rows_end c.state.row row)) (omega arith)
+  anew c longest row = comes 0 c longest row 7 2 (right _ _ (below.rows c.state.row row)) (omega arith)
 
   pub soon_start : Soon 0 (built start)
   soon_start = anew (built start) refl (omega arith)
@@ -99,17 +101,17 @@ module _ {S : Type 0} {means : S → Meaning} {steps : S → Request → Answer 
   next p c d h all = subst (λ s. T (p s.row)) (sym h.state) (follows p (hand c.state).sequencing (hand c.state).amic c.state.regs _ _ c.lines _ all)
 
   is_row : (since : ℕ) (c d : Machine S) → Cycle steps c false d → Soon since c → d.state.row < 1024
-  is_row since c d h near = ltb-true _ _ (true_test _ (next (λ k. ltb k 1024) c d h (left _ _ (rows_end c.state.row near.row))))
+  is_row since c d h near = ltb-true _ _ (true_test _ (next (λ k. ltb k 1024) c d h (left _ _ (below.rows c.state.row near.row))))
 
   stays : (since : ℕ) (c d : Machine S) (f : Bool) → Cycle steps c f d → Soon since c → (means d.pile).longest ≡ (means start).longest
-  stays since c d f h near = (fixed keeps c.pile d.pile (asked (hand c.state) c.state) h.answer h.asks).1 ∙ near.longest
+  stays since c d f h near = (fixed below.memory keeps c.pile d.pile (asked (hand c.state) c.state) h.answer h.asks).1 ∙ near.longest
 
   -- a frozen cycle takes one from the waits of the request under way
   soon_frozen : (since : ℕ) (c d : Machine S) → Cycle steps c true d → Soon since c → Soon (since + 1) d
   soon_frozen since c d h near =
       let same : d.state ≡ c.state = h.state in
       let fewer : waiting (means d.pile) (asked (hand c.state) c.state) + 1 ≡ waiting (means c.pile) (asked (hand c.state) c.state) =
-      (frozen keeps c.pile d.pile (asked (hand c.state) c.state) h.answer h.asks h.freeze).1
+      (frozen below.memory keeps c.pile d.pile (asked (hand c.state) c.state) h.answer h.asks h.freeze).1
       in
       record {
         longest = stays since c d true h near;
@@ -147,10 +149,10 @@ module _ {S : Type 0} {means : S → Meaning} {steps : S → Request → Answer 
   pub soon_lines : (since : ℕ) (c : Machine S) (l : ℕ) → Soon since c → Soon since (with_lines l c)
   soon_lines since c l near = record { longest = near.longest; row = near.row; rows = near.rows; touch = near.touch; path = near.path; near = near.near }
 
-  pub at_least_a_row : (since : ℕ) (c : Machine S) → Soon since c → since < 7 + 2 * (means start).longest
+  pub at_least_a_row : (since : ℕ) (c : Machine S) → Soon since c → since < latest (means start)
   unfolding ending
   at_least_a_row since c near = by near.rows refl
     where
-      by : (n : ℕ) → near.rows ≡ n → since < 7 + 2 * (means start).longest
+      by : (n : ℕ) → near.rows ≡ n → since < latest (means start)
       by zero e = absurd (subst (λ n. T (ending n near.touch c.state.row)) e near.path)
       by (suc n) e = omega (arith, near.near)

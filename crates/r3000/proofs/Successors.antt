@@ -1,7 +1,7 @@
 -- The row that follows is one of the successors, and before a boundary it does not depend on the lines. Assumes nothing.
 use Rattle.std.proofs.Common.{◌≡◌, ℕ, zero, suc, ◌+◌, ◌*◌, ◌/◌, ◌%◌, ◌<◌, Bool, true, false, T, refl, suc-mul, arith}
 use Rattle.std.proofs.lemmas.Bool.{true≢false}
-use Rattle.microprogram.proofs.Ends.{left, right}
+use Rattle.r3000.proofs.Tests.{left, right}
 use Rattle.microprogram.specs.Bounds.{all, spread, successors}
 use Rattle.microprogram.specs.Cycle.{ends, following, interrupting, resetting}
 use Rattle.microprogram.specs.Registers.{Regs}

@@ -7,21 +7,21 @@ use Rattle.microprogram.specs.Cycle.{State}
 use Rattle.microprogram.specs.Ledger.{blank}
 use Rattle.microprogram.specs.declared.ledger.Entry.{Entry}
 use Rattle.r3000.specs.Core.{numbered}
-use Rattle.r3000.specs.Counts.{limit}
 use Rattle.r3000.specs.Cycle.{Cycle, Cycles}
+use Rattle.r3000.specs.Limits.{last_code, last_register, max_cycles, max_lines, max_run}
 use Rattle.r3000.specs.Machine.{Machine, with_lines}
 use Rattle.r3000.specs.declared.denial.Denial.{Denial}
 use Rattle.r3000.specs.declared.denial.Denial.TheVariants as denial
 use Rattle.r3000.specs.declared.report.Clocked.{Clocked}
 use Rattle.r3000.specs.declared.report.Report.{Report}
 
--- cycles are denied where their count would pass the limit
+-- cycles are denied where their count would pass 2 ^ 62
 abbrev pub check_cycles : ℕ → Report → Result (Unit {0}) Denial
-check_cycles n report = cond (nat_lt limit (report.cycles + n)) (Err denial.Cycles) (Ok tt)
+check_cycles n report = cond (nat_lt max_cycles (report.cycles + n)) (Err denial.Cycles) (Ok tt)
 
 -- a run has 1 to 65,535 cycles
 abbrev pub check_run : ℕ → Report → Result (Unit {0}) Denial
-check_run n report = cond (n == 0 || nat_lt 65535 n) (Err denial.Range) (check_cycles n report)
+check_run n report = cond (n == 0 || nat_lt max_run n) (Err denial.Range) (check_cycles n report)
 
 -- a call that its check denies replies the denial and leaves the core as it is; another does what is said of it
 abbrev pub Checked : {S T : Type 0} → Result (Unit {0}) Denial → Machine S → Result T Denial → Machine S → Type 0 → Type 0
@@ -39,18 +39,18 @@ Runs steps says n c r d = Checked (check_run n c.report) c r d (Cycles steps say
 
 -- lines: bits 0 to 5 are IT0 to IT5, bit 6 is RST
 abbrev pub lines_reply : ℕ → Result (Unit {0}) Denial
-lines_reply n = cond (nat_lt 127 n) (Err denial.Range) (Ok tt)
+lines_reply n = cond (nat_lt max_lines n) (Err denial.Range) (Ok tt)
 
 abbrev pub lines_set : {S : Type 0} → ℕ → Machine S → Machine S
-lines_set n c = cond (nat_lt 127 n) c (with_lines n c)
+lines_set n c = cond (nat_lt max_lines n) c (with_lines n c)
 
 -- register: one of the 42
 abbrev pub register_reply : ℕ → State → Result ℕ Denial
-register_reply n c = cond (nat_lt 41 n) (Err denial.Range) (Ok (slice_index (numbered c) n))
+register_reply n c = cond (nat_lt last_register n) (Err denial.Range) (Ok (slice_index (numbered c) n))
 
 -- ledger: the entry of one of the 16 codes
 abbrev pub ledger_reply : ℕ → State → Result Entry Denial
-ledger_reply n c = cond (nat_lt 15 n) (Err denial.Range) (Ok (slice_index_or c.ledger n blank))
+ledger_reply n c = cond (nat_lt last_code n) (Err denial.Range) (Ok (slice_index_or c.ledger n blank))
 
 -- look: the byte at an address, unless its word is refused to reads
 abbrev pub look_reply : Meaning → ℕ → Result ℕ Denial

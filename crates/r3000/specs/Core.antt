@@ -22,14 +22,6 @@ made h p pile = record { state = seen p.chip; lines = p.lines; report = p.counts
 abbrev pub machine : {B : Type 0} → History → Core B → Machine B
 machine h c = made h c.processor c.pile
 
--- whatever a core has behind it, something happens to it, and it then has that behind it too
-abbrev pub Happens : {B : Type 0} → (Machine B → Machine B → Type 0) → Core B → Core B → Type 0
-Happens R c d = (h : History) → (k : History) × R (machine h c) (machine k d)
-
--- nothing is said of a core
-abbrev pub Anything : {S : Type 0} → Machine S → Type 0
-Anything c = Unit {0}
-
 -- the 42 registers by their numbers: 0 to 31, then PC, HI, LO, SR, CR, EPC, BAR, AD, IR, DT; CR is read with the lines
 abbrev pub numbered : State → List ℕ
 numbered s =

@@ -1,10 +1,6 @@
 -- The counts of a core. Assumes nothing.
-use Rattle.std.specs.Prelude.{ℕ, ◌+◌, ◌^◌, Bool, true, false}
+use Rattle.std.specs.Prelude.{◌+◌, Bool, true, false}
 use Rattle.r3000.specs.declared.report.Report.{Report}
-
--- the most cycles that a core makes
-abbrev pub limit : ℕ
-limit = 2 ^ 62
 
 abbrev pub zeros : Report
 zeros = record { cycles = 0; frozen = 0; boundaries = 0; place = 0 }

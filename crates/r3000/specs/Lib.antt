@@ -3,6 +3,7 @@ pub mod Core
 pub mod Counts
 pub mod Cycle
 pub mod Denial
+pub mod Limits
 pub mod Machine
 pub mod Played
 pub mod Promise

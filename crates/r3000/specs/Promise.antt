@@ -1,13 +1,17 @@
 -- What is promised of everything that is reached. Assumes nothing.
-use Rattle.std.specs.Prelude.{◌≡◌, ℕ, ◌+◌, ◌*◌, ◌<◌, List, [], ◌∷◌, length}
+use Rattle.std.specs.Prelude.{◌≡◌, ℕ, ◌+◌, ◌*◌, ◌<◌, List, [], ◌∷◌, length, Some}
 use Rattle.book.specs.Book.{Book, Refusals, begun, step}
 use Rattle.book.specs.Length.{length_of}
 use Rattle.bus.specs.Meaning.{Meaning}
 use Rattle.bus.specs.declared.request.Answer.{Answer}
 use Rattle.bus.specs.declared.request.Request.{Request}
 use Rattle.microprogram.specs.Cycle.{State}
-use Rattle.r3000.specs.Machine.{Machine}
+use Rattle.microprogram.specs.Registers.{reg}
+use Rattle.microprogram.specs.declared.fault.Fault.{Fault}
+use Rattle.r3000.specs.Core.{machine}
+use Rattle.r3000.specs.Machine.{History, Machine}
 use Rattle.r3000.specs.Reached.{Reached}
+use Rattle.r3000.specs.declared.cpu.Core.{Core}
 
 -- the words that a memory refuses
 abbrev pub refusals : Meaning → Refusals
@@ -30,6 +34,14 @@ pub record Agrees (b : Book) (s : State) (m : Meaning) : Type 0 where
   pub ledger : s.ledger ≡ b.ledger
   pub bytes : (address : ℕ) → m.byte address ≡ b.bytes address
 
+-- the granted cycle with which the next boundary comes at the latest, counted from the one before or from power-up: 7 + 2 W
+abbrev pub latest : Meaning → ℕ
+latest m = 7 + 2 * m.longest
+
+-- whether a flag is up
+abbrev pub Up : State → Fault → Type 0
+Up s f = s.flag ≡ Some f
+
 -- the promise, of a core that began on a pile
 pub record Promise {S : Type 0} (means : S → Meaning) (start : S) (c : Machine S) : Type 0 where
   -- the history has a step for each boundary that is reported
@@ -38,9 +50,27 @@ pub record Promise {S : Type 0} (means : S → Meaning) (start : S) (c : Machine
   pub agreement : c.report.place ≡ 0 → Agrees (book_after (means start) c.history.lines) c.state (means c.pile)
   -- sum
   pub sum : c.report.cycles ≡ c.report.frozen + lengths (means start) c.history.lines + c.report.place
-  -- promptness: granted cycle 7 + 2 W after a boundary, or after power-up, is not made without a boundary
-  pub promptness : c.history.since < 7 + 2 * (means start).longest
+  -- promptness: the latest granted cycle after a boundary, or after power-up, is not made without a boundary
+  pub promptness : c.history.since < latest (means start)
+  -- register 0 is zero, and at most one flag is up
+  pub register_0 : reg c.state.regs 0 ≡ 0
+  pub one_flag : (f g : Fault) → Up c.state f → Up c.state g → f ≡ g
 
--- every core that is reached keeps it
-abbrev pub Kept : {S : Type 0} → (S → Meaning) → (S → Request → Answer → S → Type 0) → S → Type 0
-Kept {S} means steps start = (c : Machine S) → Reached steps start c → Promise means start c
+module _ {S : Type 0} (means : S → Meaning) (steps : S → Request → Answer → S → Type 0) where
+  -- every core that is reached keeps it
+  abbrev pub Kept : S → Type 0
+  Kept start = (c : Machine S) → Reached steps start c → Promise means start c
+
+  -- a core that can be reached on a pile, and of which the promise holds
+  pub record Promised (start : S) (c : Machine S) : Type 0 where
+    pub reached : Reached steps start c
+    pub promise : Promise means start c
+
+  -- from c to d the promise is upheld: on whatever pile c can be reached, d can be reached on that pile, and the promise holds of d
+  abbrev pub Upholds : Machine S → Machine S → Type 0
+  Upholds c d = (start : S) → Reached steps start c → Promised start d
+
+  -- what a call does: whatever the core has behind it, R holds of the core before and the core after, which has that behind it
+  -- too, and the promise is upheld
+  abbrev pub Happens : (Machine S → Machine S → Type 0) → Core S → Core S → Type 0
+  Happens R c d = (h : History) → (k : History) × R (machine h c) (machine k d) × Upholds (machine h c) (machine k d)

@@ -1,5 +1,8 @@
 //! The calls as values.
 
+ghost use Rattle.std.specs.Prelude.{◌≡◌, None};
+
+use super::denial::Denial;
 use super::report::{Clocked, Report};
 use microprogram::ledger::Entry;
 
@@ -26,4 +29,21 @@ pub enum Reply {
     Snapshot([u32; 42]),
     Ledger(Entry),
     Look(u8),
+}
+
+/// A call, and the place for its reply.
+#[derive(Clone, Copy)]
+pub struct Exchange {
+    pub call: Call,
+    /// None until the call was made.
+    pub reply: Option<Result<Reply, Denial>>,
+}
+
+impl Exchange {
+    /// A call that is still to be made.
+    pub fn new(call: Call) -> Exchange
+        ensures { result ≡ record { call = call; reply = None } }
+    {
+        Exchange { call, reply: None }
+    }
 }

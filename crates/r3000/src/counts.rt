@@ -1,19 +1,17 @@
 //! The counts inside a core.
 
 ghost use Rattle.std.specs.Prelude.{◌≡◌, ◌<◌, ◌≤◌};
-ghost use Rattle.r3000.specs.Counts.{limit};
+ghost use Rattle.r3000.specs.Limits.{max_cycles};
 
 use super::denial::Denial;
+use super::limits::{MAX_CYCLES, MAX_RUN};
 use super::report::Report;
-
-/// The most cycles that a core makes.
-const LIMIT: u64 = 1 << 62;
 
 /// No count can pass the cycles, and the cycles cannot pass their limit.
 #[derive(Clone, Copy)]
 pub struct Counts {
     pub(crate) report: Report,
-    ghost limited: { report.cycles ≤ limit },
+    ghost limited: { report.cycles ≤ max_cycles },
     ghost frozen: { report.frozen ≤ report.cycles },
     ghost boundaries: { report.boundaries ≤ report.cycles },
     ghost place: { report.place ≤ report.cycles },
@@ -36,7 +34,7 @@ impl Counts {
     pub(crate) fn check_cycles(&self, count: u32) -> Result<(), Denial>
         ensures { result ≡ check_cycles count self.now.report }
     {
-        if self.report.cycles + u64::from(count) > LIMIT {
+        if self.report.cycles + u64::from(count) > MAX_CYCLES {
             return Err(Denial::Cycles);
         }
         Ok(())
@@ -46,7 +44,7 @@ impl Counts {
     pub(crate) fn check_run(&self, count: u32) -> Result<(), Denial>
         ensures { result ≡ check_run count self.now.report }
     {
-        if count == 0 || count > 65_535 {
+        if count == 0 || count > MAX_RUN {
             return Err(Denial::Range);
         }
         self.check_cycles(count)
@@ -54,7 +52,7 @@ impl Counts {
 
     /// One cycle more, by whether it was frozen and whether its row ends a path.
     pub(crate) fn count(&mut self, frozen: bool, last: bool)
-        requires { self.old.report.cycles < limit }
+        requires { self.old.report.cycles < max_cycles }
         ensures { self.new.report ≡ counted frozen last self.old.report }
     {
         self.report.cycles += 1;

@@ -1,12 +1,15 @@
 //! The core and its calls.
 
-ghost use Rattle.std.specs.Prelude.{◌≡◌};
+ghost use Rattle.std.specs.Prelude.{◌≡◌, slice_index};
 ghost use Rattle.r3000.specs.Calls.{Clocks, Runs, ledger_reply, lines_reply, lines_set, look_reply, register_reply};
-ghost use Rattle.r3000.specs.Core.{Happens, Anything, machine, numbered, pile_of, state_of};
-ghost use Rattle.r3000.specs.Machine.{History, built, fresh};
+ghost use Rattle.r3000.specs.Core.{machine, numbered, pile_of, state_of};
+ghost use Rattle.r3000.specs.Machine.{built, fresh};
+ghost use Rattle.r3000.specs.Promise.{Happens, Promised, Upholds};
 
 use super::denial::Denial;
+use super::limits::MAX_LINES;
 use super::processor::Processor;
+use super::promise::promise;
 use super::report::{Clocked, Report};
 use bus::memory::Bus;
 use microprogram::ledger::Entry;
@@ -20,10 +23,12 @@ pub struct Core<B> {
 }
 
 impl<B: Bus> Core<B> {
-    /// Power-up on a pile.
+    /// Power-up on a pile: the core can be reached on it, with nothing behind it.
     pub fn new(pile: B) -> Core<B>
-        ensures { machine fresh result ≡ built pile }
+        ensures core { machine fresh result ≡ built pile }
+        ensures promise { Promised B.Bus.means B.Bus.steps pile (machine fresh result) }
     {
+        promise::<B>();
         Core {
             processor: Processor::new(),
             pile,
@@ -32,22 +37,26 @@ impl<B: Bus> Core<B> {
 
     /// One cycle, unless the cycles would pass their limit.
     pub fn clock(&mut self) -> Result<Clocked, Denial>
-        ensures { Happens (λ c d. Clocks B.Bus.steps c result d) self.old self.new }
+        ensures { Happens B.Bus.means B.Bus.steps (λ c d. Clocks B.Bus.steps c result d) self.old self.new }
     {
-        self.processor.counts.check_cycles(1)?;
-        let frozen = self.processor.cycle(&mut self.pile);
+        promise::<B>();
+        let mut processor = self.processor;
+        processor.counts.check_cycles(1)?;
+        let frozen = processor.cycle(&mut self.pile);
+        self.processor = processor;
         Ok(Clocked {
             frozen,
-            report: self.processor.counts.report,
+            report: processor.counts.report,
         })
     }
 
     /// So many cycles, from 1 to 65,535, or none where their count would pass its limit.
     pub fn run(&mut self, count: u32) -> Result<Report, Denial>
-        ensures { Happens (λ c d. Runs B.Bus.steps Anything count c result d) self.old self.new }
+        ensures { Happens B.Bus.means B.Bus.steps (λ c d. Runs B.Bus.steps (Upholds B.Bus.means B.Bus.steps c) count c result d) self.old self.new }
     {
-        self.processor.counts.check_run(count)?;
+        promise::<B>();
         let mut processor = self.processor;
+        processor.counts.check_run(count)?;
         for _ in 0..count {
             processor.cycle(&mut self.pile);
         }
@@ -58,19 +67,23 @@ impl<B: Bus> Core<B> {
     /// Sets the lines: bits 0–5 are IT0–IT5, bit 6 is RST.
     pub fn lines(&mut self, lines: u8) -> Result<(), Denial>
         ensures reply { result ≡ lines_reply lines }
-        ensures core { (h : History) → machine h self.new ≡ lines_set lines (machine h self.old) }
+        ensures core { Happens B.Bus.means B.Bus.steps (λ c d. d ≡ lines_set lines c) self.old self.new }
     {
-        if lines > 127 {
+        promise::<B>();
+        if lines > MAX_LINES {
             return Err(Denial::Range);
         }
         self.processor.lines = lines;
         Ok(())
     }
 
-    /// All registers: 0–31, then PC, HI, LO, SR, CR, EPC, BAR, AD, IR and DT.
+    /// All registers: 0–31, then PC, HI, LO, SR, CR, EPC, BAR, AD, IR and DT. Register 0 is zero.
     pub fn snapshot(&self) -> [u32; 42]
-        ensures { result ≡ numbered (state_of self.now) }
+        ensures reply { result ≡ numbered (state_of self.now) }
+        ensures zero { slice_index result 0 ≡ 0 }
+        ensures core { Happens B.Bus.means B.Bus.steps (λ c d. d ≡ c) self.now self.now }
     {
+        promise::<B>();
         let chip = &self.processor.chip;
         let registers = &chip.registers;
         let mut all = [0; 42];
@@ -92,8 +105,10 @@ impl<B: Bus> Core<B> {
 
     /// One register, by its number in the snapshot.
     pub fn register(&self, number: u8) -> Result<u32, Denial>
-        ensures { result ≡ register_reply number (state_of self.now) }
+        ensures reply { result ≡ register_reply number (state_of self.now) }
+        ensures core { Happens B.Bus.means B.Bus.steps (λ c d. d ≡ c) self.now self.now }
     {
+        promise::<B>();
         self.snapshot()
             .get(usize::from(number))
             .copied()
@@ -102,16 +117,20 @@ impl<B: Bus> Core<B> {
 
     /// The ledger's entry of a code, 0–15.
     pub fn ledger(&self, code: u8) -> Result<Entry, Denial>
-        ensures { result ≡ ledger_reply code (state_of self.now) }
+        ensures reply { result ≡ ledger_reply code (state_of self.now) }
+        ensures core { Happens B.Bus.means B.Bus.steps (λ c d. d ≡ c) self.now self.now }
     {
+        promise::<B>();
         let entries = &self.processor.chip.ledger.entries;
         entries.get(usize::from(code)).copied().ok_or(Denial::Range)
     }
 
     /// The byte at an address, unless its word is refused to reads.
     pub fn look(&self, address: u32) -> Result<u8, Denial>
-        ensures { result ≡ look_reply (B.Bus.means (pile_of self.now)) address }
+        ensures reply { result ≡ look_reply (B.Bus.means (pile_of self.now)) address }
+        ensures core { Happens B.Bus.means B.Bus.steps (λ c d. d ≡ c) self.now self.now }
     {
+        promise::<B>();
         self.pile.look(address).ok_or(Denial::Refused)
     }
 }

@@ -1,4 +1,4 @@
-//! The core over any bus: its calls, and the promise that holds of every list of them.
+//! The core over any bus: its calls, each with the promise.
 
 #![tactic(auto)]
 
@@ -6,6 +6,8 @@ pub mod call;
 mod counts;
 pub mod cpu;
 pub mod denial;
+pub mod limits;
 pub mod perform;
 mod processor;
+pub mod promise;
 pub mod report;

@@ -1,18 +1,20 @@
-//! A list of calls on one core, with the promise.
+//! Calls on one core, as values: one at a time, and a list of them.
 
-ghost use Rattle.r3000.specs.Core.{Happens, Anything};
-ghost use Rattle.r3000.specs.Played.{Called, Handed};
+ghost use Rattle.std.specs.Prelude.{◌≡◌};
+ghost use Rattle.r3000.specs.Core.{machine};
+ghost use Rattle.r3000.specs.Machine.{History};
+ghost use Rattle.r3000.specs.Played.{Called, Performed};
+ghost use Rattle.r3000.specs.Promise.{Happens, Upholds};
 
-use super::call::{Call, Reply};
+use super::call::{Call, Exchange, Reply};
 use super::cpu::Core;
 use super::denial::Denial;
 use bus::memory::Bus;
-use std::alloc::Global;
 
 impl<B: Bus> Core<B> {
-    /// The call that a value stands for.
-    fn call(&mut self, call: Call) -> Result<Reply, Denial>
-        ensures { Happens (λ c d. Called B.Bus.means B.Bus.steps Anything c call result d) self.old self.new }
+    /// The call that a value stands for. Nothing is allocated, so the next call can be chosen by the last reply.
+    pub fn call(&mut self, call: Call) -> Result<Reply, Denial>
+        ensures { Happens B.Bus.means B.Bus.steps (λ c d. Called B.Bus.means B.Bus.steps (Upholds B.Bus.means B.Bus.steps c) c call result d) self.old self.new }
     {
         match call {
             Call::Clock => self.clock().map(Reply::Clock),
@@ -26,23 +28,14 @@ impl<B: Bus> Core<B> {
     }
 }
 
-/// Calls that were performed: their replies, in order, and the core as they left it.
-#[derive(Drop)]
-pub struct Performance<B> {
-    pub replies: Vec<Result<Reply, Denial>>,
-    pub core: Core<B>,
-}
-
-/// Performs the calls on a core that it builds on the pile; where there is no room for the replies, the pile comes back.
-pub fn perform<B: Bus>(heap: Global, pile: B, calls: &[Call]) -> Result<Performance<B>, B>
-    ensures { Handed B.Bus.means B.Bus.steps pile calls.now result }
+/// Makes the calls one after another on a core that it builds on the pile, puts each reply beside its call, and hands back
+/// the core.
+pub fn perform<B: Bus>(pile: B, exchanges: &mut [Exchange]) -> Core<B>
+    ensures { (h : History) × Performed B.Bus.means B.Bus.steps pile exchanges.old exchanges.new (machine h result) }
 {
-    let Ok(mut replies) = Vec::with_capacity(heap, calls.len()) else {
-        return Err(pile);
-    };
     let mut core = Core::new(pile);
-    for call in calls {
-        replies.push_reserved(core.call(*call));
+    for exchange in exchanges.iter_mut() {
+        exchange.reply = Some(core.call(exchange.call));
     }
-    Ok(Performance { replies, core })
+    core
 }

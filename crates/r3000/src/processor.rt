@@ -3,8 +3,9 @@
 ghost use Rattle.std.specs.Prelude.{◌≡◌, ◌<◌};
 ghost use Rattle.microprogram.specs.Cycle.{powered, seen};
 ghost use Rattle.r3000.specs.Core.{made};
-ghost use Rattle.r3000.specs.Counts.{limit, zeros};
+ghost use Rattle.r3000.specs.Counts.{zeros};
 ghost use Rattle.r3000.specs.Cycle.{Asks, Cycle, freezes};
+ghost use Rattle.r3000.specs.Limits.{max_cycles};
 ghost use Rattle.r3000.specs.Machine.{History};
 
 use super::counts::Counts;
@@ -39,7 +40,7 @@ impl Processor {
 
     /// One cycle on a pile; tells whether it was frozen.
     pub(crate) fn cycle<B: Bus>(&mut self, pile: &mut B) -> bool
-        requires { self.old.counts.report.cycles < limit }
+        requires { self.old.counts.report.cycles < max_cycles }
         ensures { (h : History) → (k : History) × Cycle B.Bus.steps (made h self.old pile.old) result (made k self.new pile.new) }
     {
         let row = row(self.chip.row);

@@ -1,37 +1,47 @@
-use Rattle.std.proofs.Common.{◌≡◌, get_or, take, vec_items, sym, ap, ◌∙◌, arith}
-use Rattle.std.proofs.lemmas.List.{take_all, take_more}
+use Rattle.std.proofs.Common.{◌+◌, ◌<◌, [], ◌∷◌, ◌++◌, Some, None, length, get_or, take, sym, refl, ap, ◌∙◌, subst, subst₂, arith}
+use Rattle.std.proofs.lemmas.List.{drop-set-lt, take_all, take_more, take_more_set}
 use Rattle.r3000.specs.Core.{machine}
 use Rattle.r3000.specs.Machine.{built, fresh}
+use Rattle.r3000.specs.Played.{Played}
+use Rattle.r3000.specs.Promise.{Promised}
 use Rattle.r3000.specs.declared.call.Call.TheVariants as call
-use Rattle.r3000.proofs.Played.{begins, none_played, plays_more}
+use Rattle.r3000.specs.declared.call.Exchange.{Exchange}
+use Rattle.r3000.proofs.Played.{plays_more, same_rest}
 use Rattle.r3000.proofs.perform.perform.Goals as goal
 
-pub loop-call-init : goal.loop-call-init
-loop-call-init g c =
-    let start : machine fresh c.new-core.result ≡ built c.new-core.result.pile = c.new-core.ensures ∙ ap built (sym (ap (λ m. m.pile) c.new-core.ensures)) in
-    let begun = none_played g.B.Bus.keeps c.new-core.result.pile (vec_items c.in-Ok.replies) _ c.in-Ok.ensures.items start in
-    record { replied = c.in-Ok.ensures.len; room = omega (arith, c.in-Ok.ensures.capacity); history = fresh; played = begun.0; reached = begun.1 }
+pub loop-exchange-init : goal.loop-exchange-init
+loop-exchange-init g c =
+    record { history = fresh; played = c.new-core.ensures.core; reached = c.new-core.ensures.promise.reached; rest = refl }
 
-pub loop-call-preserved : goal.loop-call-preserved
-loop-call-preserved g c =
-    let before = c.loop-call.invariant in
+pub loop-exchange-preserved : goal.loop-exchange-preserved
+loop-exchange-preserved g c =
+    let before = c.loop-exchange.invariant in
+    let i = c.loop-exchange.exchange-index in
+    let xs = c.args.exchanges.now in
+    let ys = c.loop-exchange.exchanges in
+    let none : Exchange = record { call = call.Clock; reply = None } in
     let done = c.call.ensures before.history in
-    let next = plays_more g.B.Bus.keeps c.new-core.result.pile (built c.new-core.result.pile) _ _ _ _ (get_or c.args.calls.now c.loop-call.call-index call.Clock) _ before.played before.reached done.1 in
+    let inside : i < length xs = c.loop-exchange-test.true in
+    let inside_still : i < length ys = omega arith in
+    let rest = same_rest ys xs i none inside_still inside before.rest in
+    let made : Exchange = record { call = (get_or ys i none).call; reply = Some c.call.result } in
+    let more = plays_more g.B.Bus.means g.B.Bus.steps c.args.pile (built c.args.pile) (machine before.history c.loop-exchange.core) (machine done.0 c.call.new.self) (take i xs) (take i ys) (get_or ys i none) c.call.result before.played before.reached done.1 done.2 in
     record {
-      replied = omega (arith, c.push_reserved.ensures.len, before.replied);
-      room = omega (arith, c.push_reserved.ensures.capacity, before.room);
       history = done.0;
-      played = rw (← take_more c.args.calls.now c.loop-call.call-index call.Clock c.loop-call-test.true, ← c.push_reserved.ensures.items) at next.0;
-      reached = next.1;
+      played =
+          subst₂ (λ us vs. Played g.B.Bus.means g.B.Bus.steps (Promised g.B.Bus.means g.B.Bus.steps c.args.pile) (built c.args.pile) us vs (machine done.0 c.call.new.self))
+          (ap (λ x. take i xs ++ x ∷ []) rest.0 ∙ sym (take_more xs i none inside)) (sym (take_more_set ys i made inside_still)) more;
+      reached = (done.2 c.args.pile before.reached).reached;
+      rest = drop-set-lt (i + 1) ys i made (omega arith) ∙ rest.1;
     }
 
 pub returns : goal.returns
 returns g c =
-    let here : c.new-core.result.pile ≡ c.args.pile = ap (λ m. m.pile) c.new-core.ensures in
-    let whole : take c.loop-call.call-index c.args.calls.now ≡ c.args.calls.now = take_all c.loop-call.call-index c.args.calls.now c.loop-call-test.false in (
-      c.loop-call.invariant.history,
+    let w = c.loop-exchange.invariant in
+    let i = c.loop-exchange.exchange-index in (
+      w.history,
       record {
-        begun = begins g.B.Bus.keeps c.args.pile;
-        played = rw (here, whole) at c.loop-call.invariant.played;
+        begun = subst (λ m. Promised g.B.Bus.means g.B.Bus.steps c.args.pile m) c.new-core.ensures.core c.new-core.ensures.promise;
+        played = subst₂ (λ us vs. Played g.B.Bus.means g.B.Bus.steps (Promised g.B.Bus.means g.B.Bus.steps c.args.pile) (built c.args.pile) us vs (machine w.history c.loop-exchange.core)) (take_all i c.args.exchanges.now c.loop-exchange-test.false) (take_all i c.loop-exchange.exchanges (omega arith)) w.played;
       },
     )

@@ -1,13 +1,14 @@
-use Rattle.std.proofs.Common.{rules, ◌≡◌, ℕ, zero, suc, ◌+◌, Bool, true, false, Err, refl, ap, add-one, arith}
+use Rattle.std.proofs.Common.{rules, ◌≡◌, ℕ, zero, suc, ◌+◌, Bool, true, false, Ok, Err, refl, ap, add-one, arith}
 use Rattle.bus.specs.declared.request.Answer.{Answer}
 use Rattle.bus.specs.declared.request.Request.{Request}
 use Rattle.microprogram.specs.Cycle.{ends}
-use Rattle.r3000.specs.Calls.{check_run}
-use Rattle.r3000.specs.Core.{Anything, machine}
+use Rattle.r3000.specs.Calls.{Runs, check_run}
+use Rattle.r3000.specs.Core.{machine, made}
 use Rattle.r3000.specs.Counts.{counted}
 use Rattle.r3000.specs.Cycle.{Cycles}
 use Rattle.r3000.specs.Machine.{Machine, fresh, hand}
 use Rattle.r3000.specs.declared.report.Report.{Report}
+use Rattle.r3000.proofs.Upheld.{Anything, runs, stays}
 use Rattle.r3000.proofs.cpu.Core.run.Goals as goal
 
 -- so many cycles are counted as so many
@@ -24,7 +25,8 @@ as_many steps says (suc n) c d h =
 pub returns-in_err-check_run : goal.returns-in_err-check_run
 returns-in_err-check_run g c h =
     let denied : Err _ ≡ check_run c.args.count c.args.self.now.processor.counts.report = c.in_err-check_run.ensures in
-    (h, rw (← denied) (search rules, refl))
+    let here = machine h c.args.self.now in
+    (h, rw (← denied) (search rules, refl), stays c.promise.ensures here here refl)
 
 pub loop-init : goal.loop-init
 loop-init g c h = (h, refl)
@@ -44,4 +46,8 @@ pub returns : goal.returns
 returns g c h =
     let so_far = c.loop.invariant h in
     let all : c.loop.counter ≡ c.args.count = omega arith in
-    (so_far.0, rw (← c.in_ok-check_run.ensures) (rw all at so_far.1, refl))
+    let before = machine h c.args.self.now in
+    let after = made so_far.0 c.loop.processor c.loop.self.pile in
+    let ran : Runs g.B.Bus.steps Anything c.args.count before (Ok c.loop.processor.counts.report) after = rw (← c.in_ok-check_run.ensures) (rw all at so_far.1, refl) in
+    let upheld = runs c.promise.ensures c.args.count before after (Ok c.loop.processor.counts.report) ran in
+    (so_far.0, upheld.0, upheld.1)

@@ -1,6 +1,7 @@
-use Rattle.r3000.specs.Core.{Anything, machine, made}
+use Rattle.r3000.specs.Core.{machine, made}
 use Rattle.r3000.specs.Cycle.{Cycles}
 use Rattle.r3000.specs.Machine.{History}
+use Rattle.r3000.proofs.Upheld.{Anything}
 use Rattle.r3000.proofs.cpu.Core.run.Given as goal
 
 abbrev pub invariant-loop : goal.invariant-loop

@@ -1,0 +1,15 @@
+//! The promise, as a theorem.
+
+ghost use Rattle.r3000.specs.Promise.{Kept};
+
+use book::law::longest_step;
+use bus::memory::Bus;
+use microprogram::bounds::longest_path;
+
+/// Everything that is reached on any pile keeps the promise. This is a proof and no code: who calls it has its contract.
+pub fn promise<B: Bus>()
+    ensures { (start : B) → Kept B.Bus.means B.Bus.steps start }
+{
+    let _ = longest_path();
+    let _ = longest_step();
+}
