@@ -1,5 +1,5 @@
 -- A job on a memory whose meaning decides how it goes on: each reply, by a function. Assumes nothing.
-use Rattle.std.specs.Prelude.{◌≡◌, ℕ, zero, suc, ◌+◌, cond, List, [], ◌∷◌, length, Some, None, Ok, Err, Option, Result, nat_lt}
+use Rattle.std.specs.Prelude.{ℕ, zero, suc, ◌+◌, cond, List, [], ◌∷◌, ◌++◌, length, Some, None, Ok, Err, Option, Result, nat_lt}
 use Rattle.book.specs.Instant.{asked}
 use Rattle.bus.specs.Meaning.{Meaning, answer}
 use Rattle.bus.specs.Request.{access_of}
@@ -7,32 +7,29 @@ use Rattle.bus.specs.Settled.{outcome}
 use Rattle.bus.specs.declared.request.Answer.{Answer}
 use Rattle.bus.specs.declared.request.Request.{Request}
 use Rattle.lines.specs.Line.{read_line}
-use Rattle.lines.specs.Written.{written}
 use Rattle.lines.specs.declared.fault.JobFault.{JobFault}
 use Rattle.lines.specs.declared.fault.JobFault.TheVariants as fault
 use Rattle.lines.specs.declared.order.Order.{Order}
 use Rattle.lines.specs.declared.order.Order.TheVariants as order
 use Rattle.lines.specs.declared.reply.Reply.{Reply}
 use Rattle.lines.specs.declared.reply.Reply.TheVariants as reply
-use Rattle.jobs.specs.Job.{all_written, answered, denial, lines_of}
-use Rattle.jobs.specs.Station.{Stage, called, counted, load_end, loaded, loading, running, store}
+use Rattle.jobs.specs.Job.{answered, denial, lines_of}
+use Rattle.jobs.specs.Limits.{max_job}
+use Rattle.jobs.specs.Station.{called, counted, load_end, loaded, store}
 use Rattle.microprogram.specs.Cycle.{advanced, ends, worked}
 use Rattle.r3000.specs.Calls.{check_run, lines_reply, lines_set, register_reply}
 use Rattle.r3000.specs.Counts as counts
 use Rattle.r3000.specs.Cycle.{freezes}
-use Rattle.r3000.specs.Machine.{Machine, built, hand, later}
+use Rattle.r3000.specs.Machine.{Machine, built, fresh, hand}
 use Rattle.r3000.specs.declared.denial.Denial.{Denial}
-
--- a memory is decided where the meaning after a request is a function of the meaning before it
-abbrev pub Decided : {S : Type 0} → (S → Meaning) → (S → Request → Answer → S → Type 0) → (Meaning → Request → Meaning) → Type 0
-Decided {S} means steps next = (s : S) (q : Request) (a : Answer) (t : S) → steps s q a t → means t ≡ next (means s) q
 
 -- what a memory answers in a cycle: it is asked exactly where the cycle makes a request
 abbrev pub told : Meaning → Option Request → Option Answer
 told m None = None
 told m (Some q) = Some (answer m q)
 
--- a core after a cycle with this answer and this memory after it: a frozen cycle leaves the processor as it is
+-- a core after a cycle with this answer and this memory after it: a frozen cycle leaves the processor as it is; no reply tells
+-- the history, and none is kept
 abbrev pub cycled : Option Answer → Meaning → Machine Meaning → Machine Meaning
 cycled a m c =
     record {
@@ -40,17 +37,18 @@ cycled a m c =
       lines = c.lines;
       report = counts.counted (freezes a) (ends (hand c.state).sequencing) c.report;
       pile = m;
-      history = later c (freezes a);
+      history = fresh;
     }
 
--- what is replied, and where the job then stands, with what a memory means in the memory's place
+-- where a job stands, with what a memory means in the memory's place: before the start a memory, after it a core
+pub data Sight : Type 0 where
+  loading : Meaning → Sight
+  running : Machine Meaning → Sight
+
+-- what is replied, and where the job then stands
 pub record Turn (A : Type 0) : Type 0 where
   pub reply : A
-  pub then : Stage Meaning
-
--- what a turn replies to the line of this number
-abbrev pub said : ℕ → Turn (Result Reply JobFault) → Turn Reply
-said n t = record { reply = answered n t.reply; then = t.then }
+  pub then : Sight
 
 module _ (next : Meaning → Request → Meaning) where
   -- the memory after a cycle
@@ -79,39 +77,39 @@ module _ (next : Meaning → Request → Meaning) where
   -- an order before the start
   abbrev pub early : Meaning → Order → Turn (Result Reply JobFault)
   early m (order.Load address word) = record { reply = loaded (load_end (outcome m (store address word))); then = loading (settled (store address word) m) }
-  early m order.Start = record { reply = Ok reply.Started; then = running m (built m) }
+  early m order.Start = record { reply = Ok reply.Started; then = running (built m) }
   early m (order.Lines n) = record { reply = Err fault.BeforeStart; then = loading m }
   early m (order.Run n) = record { reply = Err fault.BeforeStart; then = loading m }
   early m (order.Show n) = record { reply = Err fault.BeforeStart; then = loading m }
 
   -- a run, by what its check says: a denied one leaves the core as it is
-  abbrev pub run : Meaning → Result (Unit {0}) Denial → ℕ → Machine Meaning → Turn (Result Reply JobFault)
-  run m (Err d) n c = record { reply = called counted (Err d); then = running m c }
-  run m (Ok u) n c = record { reply = called counted (Ok (cycles n c).report); then = running m (cycles n c) }
+  abbrev pub run : Result (Unit {0}) Denial → ℕ → Machine Meaning → Turn (Result Reply JobFault)
+  run (Err d) n c = record { reply = called counted (Err d); then = running c }
+  run (Ok u) n c = record { reply = called counted (Ok (cycles n c).report); then = running (cycles n c) }
 
   -- an order after the start
-  abbrev pub late : Meaning → Machine Meaning → Order → Turn (Result Reply JobFault)
-  late m c (order.Load address word) = record { reply = Err fault.AfterStart; then = running m c }
-  late m c order.Start = record { reply = Err fault.AfterStart; then = running m c }
-  late m c (order.Lines n) = record { reply = called (λ u. reply.Set) (lines_reply n); then = running m (lines_set n c) }
-  late m c (order.Run n) = run m (check_run n c.report) n c
-  late m c (order.Show n) = record { reply = called (reply.Shown n) (register_reply n c.state); then = running m c }
+  abbrev pub late : Machine Meaning → Order → Turn (Result Reply JobFault)
+  late c (order.Load address word) = record { reply = Err fault.AfterStart; then = running c }
+  late c order.Start = record { reply = Err fault.AfterStart; then = running c }
+  late c (order.Lines n) = record { reply = called (λ u. reply.Set) (lines_reply n); then = running (lines_set n c) }
+  late c (order.Run n) = run (check_run n c.report) n c
+  late c (order.Show n) = record { reply = called (reply.Shown n) (register_reply n c.state); then = running c }
 
   -- an order
-  abbrev pub obeyed : Stage Meaning → Order → Turn (Result Reply JobFault)
+  abbrev pub obeyed : Sight → Order → Turn (Result Reply JobFault)
   obeyed (loading m) o = early m o
-  obeyed (running m c) o = late m c o
+  obeyed (running c) o = late c o
 
   -- a line that was read: denied by its form, or an order
-  abbrev pub heeded : Stage Meaning → ℕ → Result Order JobFault → Turn Reply
-  heeded e n (Err f) = record { reply = denial n f; then = e }
-  heeded e n (Ok o) = said n (obeyed e o)
+  abbrev pub heeded : Sight → ℕ → Result Order JobFault → Turn (List Reply)
+  heeded e n (Err f) = record { reply = answered n (Err f); then = e }
+  heeded e n (Ok o) = let turn = obeyed e o in record { reply = answered n turn.reply; then = turn.then }
 
   -- the replies to lines one after another, numbered
-  abbrev pub replies : Stage Meaning → ℕ → List (List ℕ) → List Reply
+  abbrev pub replies : Sight → ℕ → List (List ℕ) → List Reply
   replies e n [] = []
-  replies e n (l ∷ ls) = let turn = heeded e n (read_line l) in turn.reply ∷ replies turn.then (n + 1) ls
+  replies e n (l ∷ ls) = let turn = heeded e n (read_line l) in turn.reply ++ replies turn.then (n + 1) ls
 
-  -- the output of a whole job on a memory: one of more than 65,536 bytes is too long
-  abbrev pub output : Meaning → List ℕ → List ℕ
-  output m job = cond (nat_lt 65536 (length job)) (written (denial 0 fault.TooLong)) (all_written (replies (loading m) 1 (lines_of job)))
+  -- the replies to a whole job on a memory: one of more than 65,536 bytes is too long
+  abbrev pub replies_on : Meaning → List ℕ → List Reply
+  replies_on m job = cond (nat_lt max_job (length job)) (denial 0 fault.TooLong ∷ []) (replies (loading m) 1 (lines_of job))

@@ -1,19 +1,17 @@
 -- A whole job. Assumes nothing.
-use Rattle.std.specs.Prelude.{◌≡◌, ℕ, ◌+◌, Bool, true, false, cond, List, [], ◌∷◌, ◌++◌, length, Ok, Err, Result, ◌==◌, nat_lt}
+use Rattle.std.specs.Prelude.{◌≡◌, ℕ, ◌+◌, cond, List, [], ◌∷◌, ◌++◌, length, Some, None, Ok, Err, Option, Result, ◌==◌, nat_lt}
 use Rattle.bus.specs.Meaning.{Meaning}
 use Rattle.bus.specs.declared.request.Answer.{Answer}
 use Rattle.bus.specs.declared.request.Request.{Request}
 use Rattle.lines.specs.Fault.{address_of, number_of}
 use Rattle.lines.specs.Line.{read_line}
-use Rattle.jobs.specs.Station.{Obeys, Stage, loading, running}
-use Rattle.lines.specs.Written.{written}
+use Rattle.jobs.specs.Limits.{max_job}
+use Rattle.jobs.specs.Station.{IsPromised, Obeys, Stage, loading}
 use Rattle.lines.specs.declared.fault.JobFault.{JobFault}
 use Rattle.lines.specs.declared.fault.JobFault.TheVariants as fault
 use Rattle.lines.specs.declared.order.Order.{Order}
 use Rattle.lines.specs.declared.reply.Reply.{Reply}
 use Rattle.lines.specs.declared.reply.Reply.TheVariants as reply
-use Rattle.r3000.specs.Machine.{Machine}
-use Rattle.r3000.specs.Played.{Promised}
 
 -- a byte begins the first line
 abbrev pub begins : ℕ → List (List ℕ) → List (List ℕ)
@@ -29,44 +27,56 @@ lines_of (b ∷ bs) = cond (b == 10) ([] ∷ lines_of bs) (begins b (lines_of bs
 abbrev pub denial : ℕ → JobFault → Reply
 denial n f = reply.Denied (record { number = number_of f; line = n; address = address_of f })
 
--- the reply to a line: its own, or that of its denial
-abbrev pub answered : ℕ → Result Reply JobFault → Reply
-answered n (Ok r) = r
-answered n (Err f) = denial n f
+-- the replies to a line: its own, or that of its denial
+abbrev pub answered : ℕ → Result Reply JobFault → List Reply
+answered n (Ok r) = r ∷ []
+answered n (Err f) = denial n f ∷ []
 
--- what is said of a stage: of its core
-abbrev pub Said : {S : Type 0} → (S → Machine S → Type 0) → Stage S → Type 0
-Said says (loading s) = Unit {0}
-Said says (running s c) = says s c
+-- where a job stands: the replies of the last line that are still due, where it has come to, and the lines that are left, with
+-- the number of the first of them
+pub record Standing (S : Type 0) : Type 0 where
+  pub due : List Reply
+  pub stage : Stage S
+  pub number : ℕ
+  pub left : List (List ℕ)
 
-module _ {S : Type 0} (means : S → Meaning) (steps : S → Request → Answer → S → Type 0) (says : S → Machine S → Type 0) where
+-- where a job stands at first: one of more than 65,536 bytes is denied as line 0, and nothing else of it is done
+abbrev pub begun : {S : Type 0} → S → List ℕ → Standing S
+begun pile job =
+    cond (nat_lt max_job (length job))
+    (record { due = denial 0 fault.TooLong ∷ []; stage = loading pile; number = 1; left = [] })
+    (record { due = []; stage = loading pile; number = 1; left = lines_of job })
+
+module _ {S : Type 0} (means : S → Meaning) (steps : S → Request → Answer → S → Type 0) where
   -- a line that was read: denied by its form, or an order
-  abbrev pub Heeds : Stage S → ℕ → Result Order JobFault → Reply → Stage S → Type 0
-  Heeds e n (Err f) r g = (r ≡ denial n f) × (g ≡ e)
-  Heeds e n (Ok o) r g = (q : Result Reply JobFault) × Obeys means steps says e o q g × (r ≡ answered n q)
+  abbrev pub Heeds : Stage S → ℕ → Result Order JobFault → List Reply → Stage S → Type 0
+  Heeds e n (Err f) rs g = (rs ≡ answered n (Err f)) × (g ≡ e)
+  Heeds e n (Ok o) rs g = (q : Result Reply JobFault) × Obeys means steps e o q g × (rs ≡ answered n q)
 
-  -- lines one after another, numbered, each with its reply, and what is said of the core after each of them
+  -- lines one after another, numbered, each with its replies; after each the promise holds
   abbrev pub Works : Stage S → ℕ → List (List ℕ) → List Reply → Stage S → Type 0
   Works e n [] rs f = (rs ≡ []) × (f ≡ e)
   Works e n (l ∷ ls) rs f =
-      (r : Reply) × (qs : List Reply) × (g : Stage S) × (rs ≡ r ∷ qs) × Heeds e n (read_line l) r g × Said says g × Works g (n + 1) ls qs f
+      (here : List Reply) × (qs : List Reply) × (g : Stage S) × (rs ≡ here ++ qs) × Heeds e n (read_line l) here g × IsPromised means steps g × Works g (n + 1) ls qs f
 
--- the bytes of replies
-abbrev pub all_written : List Reply → List ℕ
-all_written [] = []
-all_written (r ∷ rs) = written r ++ all_written rs
+  -- replies that are all that a job still gives: those that are due, and those to the lines that are left
+  abbrev pub ToCome : Standing S → List Reply → Type 0
+  ToCome x rs = (qs : List Reply) × (end : Stage S) × (rs ≡ x.due ++ qs) × Works x.stage x.number x.left qs end
 
--- at every point of a job after its start the core is one that can be, and the promise holds of it
-abbrev pub Holds : {S : Type 0} → (S → Meaning) → (S → Request → Answer → S → Type 0) → S → Machine S → Type 0
-Holds means steps start c = Promised means steps start c
+  -- a whole job on a pile, with all its replies
+  abbrev pub Done : S → List ℕ → List Reply → Type 0
+  Done pile job rs = ToCome (begun pile job) rs
 
--- what is done with a job, by whether it is too long: then it is denied as line 0, and nothing else is done; else its lines are
--- done one after another, to some stage, and the output is their replies
-abbrev pub DoneIf : {S : Type 0} → (S → Meaning) → (S → Request → Answer → S → Type 0) → Bool → S → List ℕ → List ℕ → Type 0
-DoneIf means steps true pile job output = output ≡ written (denial 0 fault.TooLong)
-DoneIf {S} means steps false pile job output =
-    (replies : List Reply) × (end : Stage S) × Works means steps (Holds means steps) (loading pile) 1 (lines_of job) replies end × (output ≡ all_written replies)
-
--- a whole job on a pile: one of more than 65,536 bytes is too long
-abbrev pub Done : {S : Type 0} → (S → Meaning) → (S → Request → Answer → S → Type 0) → S → List ℕ → List ℕ → Type 0
-Done means steps pile job output = DoneIf means steps (nat_lt 65536 (length job)) pile job output
+  -- how a job gives its next reply: one that is due; where none is, it does the next line, and gives the first of the line's
+  -- replies; where no line is left either, it gives none and stays as it is
+  abbrev pub Gives : Standing S → Option Reply → Standing S → Type 0
+  Gives x r y =
+      elim x.due [
+        | d ∷ ds ↦ (r ≡ Some d) × (y ≡ record { due = ds; stage = x.stage; number = x.number; left = x.left })
+        | [] ↦ elim x.left [
+          | [] ↦ (r ≡ None) × (y ≡ x)
+          | l ∷ ls ↦
+              (d : Reply) × (ds : List Reply) × (g : Stage S) × Heeds x.stage x.number (read_line l) (d ∷ ds) g × (r ≡ Some d)
+              × (y ≡ record { due = ds; stage = g; number = x.number + 1; left = ls })
+        ]
+      ]

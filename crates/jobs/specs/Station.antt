@@ -18,8 +18,11 @@ use Rattle.lines.specs.declared.reply.Reply.TheVariants as reply
 use Rattle.jobs.specs.declared.station.Station.{Station}
 use Rattle.jobs.specs.declared.station.Station.TheVariants.{Loading, Running}
 use Rattle.r3000.specs.Calls.{Runs, lines_reply, lines_set, register_reply}
-use Rattle.r3000.specs.Core.{Anything, machine}
+use Rattle.r3000.specs.Core.{machine}
 use Rattle.r3000.specs.Machine.{History, Machine, built}
+use Rattle.r3000.specs.Promise.{Promised, Upholds}
+use Rattle.r3000.specs.Reached.{Reached}
+use Rattle.r3000.specs.declared.cpu.Core.{Core}
 use Rattle.r3000.specs.declared.denial.Denial.{Denial}
 use Rattle.r3000.specs.declared.report.Report.{Report}
 
@@ -60,28 +63,35 @@ module _ {S : Type 0} (means : S → Meaning) (steps : S → Request → Answer 
   EarlyObeys s (order.Run n) r e = (r ≡ Err fault.BeforeStart) × (e ≡ loading s)
   EarlyObeys s (order.Show n) r e = (r ≡ Err fault.BeforeStart) × (e ≡ loading s)
 
-  -- an order after the start, and what is said of the core after each cycle of a run
-  abbrev pub LateObeys : (Machine S → Type 0) → Machine S → Order → Result Reply JobFault → Machine S → Type 0
-  LateObeys says c (order.Load address word) r d = (r ≡ Err fault.AfterStart) × (d ≡ c)
-  LateObeys says c order.Start r d = (r ≡ Err fault.AfterStart) × (d ≡ c)
-  LateObeys says c (order.Lines n) r d = (r ≡ called (λ u. reply.Set) (lines_reply n)) × (d ≡ lines_set n c)
-  LateObeys says c (order.Run n) r d = (q : Result Report Denial) × Runs steps says n c q d × (r ≡ called counted q)
-  LateObeys says c (order.Show n) r d = (r ≡ called (reply.Shown n) (register_reply n c.state)) × (d ≡ c)
+  -- an order after the start; each cycle of a run upholds the promise
+  abbrev pub LateObeys : Machine S → Order → Result Reply JobFault → Machine S → Type 0
+  LateObeys c (order.Load address word) r d = (r ≡ Err fault.AfterStart) × (d ≡ c)
+  LateObeys c order.Start r d = (r ≡ Err fault.AfterStart) × (d ≡ c)
+  LateObeys c (order.Lines n) r d = (r ≡ called (λ u. reply.Set) (lines_reply n)) × (d ≡ lines_set n c)
+  LateObeys c (order.Run n) r d = (q : Result Report Denial) × Runs steps (Upholds means steps c) n c q d × (r ≡ called counted q)
+  LateObeys c (order.Show n) r d = (r ≡ called (reply.Shown n) (register_reply n c.state)) × (d ≡ c)
 
-  -- an order; what is said of a core goes by the pile that it was built on
-  abbrev pub Obeys : (S → Machine S → Type 0) → Stage S → Order → Result Reply JobFault → Stage S → Type 0
-  Obeys says (loading s) o r e = EarlyObeys s o r e
-  Obeys says (running s c) o r e = (d : Machine S) × LateObeys (says s) c o r d × (e ≡ running s d)
+  -- an order
+  abbrev pub Obeys : Stage S → Order → Result Reply JobFault → Stage S → Type 0
+  Obeys (loading s) o r e = EarlyObeys s o r e
+  Obeys (running s c) o r e = (d : Machine S) × LateObeys c o r d × (e ≡ running s d)
+
+  -- the core, if there is one, can be reached on the pile that it was built on
+  abbrev pub IsReached : Stage S → Type 0
+  IsReached (loading s) = Unit {0}
+  IsReached (running s c) = Reached steps s c
+
+  -- and the promise holds of it
+  abbrev pub IsPromised : Stage S → Type 0
+  IsPromised (loading s) = Unit {0}
+  IsPromised (running s c) = Promised means steps s c
 
 -- the code's station, on the pile of its start and with a history behind it
-abbrev pub stage : {B : Type 0} → B → History → Station B → Stage B
+abbrev pub stage : {B : Type 0} → B → History → Station B (Core B) → Stage B
 stage s h (Loading pile) = loading pile
 stage s h (Running core) = running s (machine h core)
 
--- whatever is behind a station, something happens to it, and that is then behind it too
-abbrev pub Goes : {B : Type 0} → (Stage B → Stage B → Type 0) → Station B → Station B → Type 0
-Goes {B} R c d = (s : B) (h : History) → (t : B) × (k : History) × R (stage s h c) (stage t k d)
-
--- nothing is said of a core
-abbrev pub Unsaid : {S : Type 0} → S → Machine S → Type 0
-Unsaid s = Anything
+-- whatever is behind a station, something happens to it, and that is then behind it too; and the promise is upheld
+abbrev pub Goes : {B : Type 0} → (B → Meaning) → (B → Request → Answer → B → Type 0) → (Stage B → Stage B → Type 0) → Station B (Core B) → Station B (Core B) → Type 0
+Goes {B} means steps R c d =
+    (s : B) (h : History) → (t : B) × (k : History) × R (stage s h c) (stage t k d) × (IsReached means steps (stage s h c) → IsPromised means steps (stage t k d))

@@ -1,0 +1,69 @@
+-- A job at work, as the code has it: the replies that are still to come. Assumes nothing.
+use Rattle.std.specs.Prelude.{◌≡◌, ℕ, List, [], ◌∷◌, ◌++◌, MatchOption, Some, None, Option, option_to_list}
+use Rattle.std.specs.Iterator.{YieldsFirst}
+use Rattle.bus.specs.Decided.{Decided}
+use Rattle.bus.specs.Meaning.{Meaning}
+use Rattle.bus.specs.declared.request.Answer.{Answer}
+use Rattle.bus.specs.declared.request.Request.{Request}
+use Rattle.jobs.specs.Decided as sight
+use Rattle.jobs.specs.Decided.{Sight, replies}
+use Rattle.jobs.specs.Job.{Gives, Standing, ToCome, lines_of}
+use Rattle.jobs.specs.Station.{IsPromised, IsReached, Stage, loading, stage}
+use Rattle.jobs.specs.declared.job.Job.{Job}
+use Rattle.jobs.specs.declared.station.Station.{Station}
+use Rattle.jobs.specs.declared.station.Station.TheVariants.{Loading, Running}
+use Rattle.lines.specs.declared.reply.Reply.{Reply}
+use Rattle.r3000.specs.Core.{machine}
+use Rattle.r3000.specs.Machine.{History, Machine, fresh}
+use Rattle.r3000.specs.declared.cpu.Core.{Core}
+
+module _ {B : Type 0} where
+  -- the stage of a job; one without a station would be at its end, before a start
+  abbrev pub stage_of : B → History → Option (Station B (Core B)) → Stage B
+  stage_of s h (Some station) = stage s h station
+  stage_of s h None = loading s
+
+  -- the lines that are left of a job's bytes; without a station none are
+  abbrev pub left_of : Option (Station B (Core B)) → List ℕ → List (List ℕ)
+  left_of (Some station) bytes = lines_of bytes
+  left_of None bytes = []
+
+  -- where a job stands, on the pile of its start and with a history behind it
+  abbrev pub standing : B → History → Job B → Standing B
+  standing s h x =
+      record { due = option_to_list x.due; stage = stage_of s h x.station; number = x.number; left = left_of x.station x.lines.0.now }
+
+  module _ (means : B → Meaning) where
+    -- a core with what its memory means in the memory's place, and no history
+    abbrev pub core_shown : Machine B → Machine Meaning
+    core_shown c = record { state = c.state; lines = c.lines; report = c.report; pile = means c.pile; history = fresh }
+
+    -- a station, so
+    abbrev pub sight_of : Station B (Core B) → Sight
+    sight_of (Loading pile) = sight.loading (means pile)
+    sight_of (Running core) = sight.running (core_shown (machine fresh core))
+
+    -- on a decided memory the replies that are still to come of a job are these
+    abbrev pub to_come : (Meaning → Request → Meaning) → Job B → List Reply
+    to_come next x =
+        option_to_list x.due ++ elim x.station [ Some station ↦ replies next (sight_of station) x.number (lines_of x.lines.0.now) | None ↦ [] ]
+
+    module _ (steps : B → Request → Answer → B → Type 0) where
+      -- what a reply that was given leaves to come: whatever comes after it is, with it, what came before; and none is given
+      -- only where none is to come
+      abbrev pub Leaves : Standing B → Option Reply → Standing B → Type 0
+      Leaves x r y = MatchOption r (ToCome means steps x []) (λ d. (rs : List Reply) → ToCome means steps y rs → ToCome means steps x (d ∷ rs))
+
+      -- one call of next, over any pile
+      pub record Turns (s : B) (h : History) (x : Job B) (r : Option Reply) (y : Job B) : Type 0 where
+        pub pile : B
+        pub history : History
+        pub gives : Gives means steps (standing s h x) r (standing pile history y)
+        -- where the core could be reached, the promise holds of it, and the replies are those of the job
+        pub promise : IsReached means steps (standing s h x).stage → IsPromised means steps (standing pile history y).stage
+        pub leaves : IsReached means steps (standing s h x).stage → Leaves (standing s h x) r (standing pile history y)
+
+      -- and, where the pile is decided, the value of the function
+      pub record NextGives (x : Job B) (r : Option Reply) (y : Job B) : Type 0 where
+        pub turns : (s : B) (h : History) → Turns s h x r y
+        pub exact : (next : Meaning → Request → Meaning) → Decided means steps next → YieldsFirst (to_come next) x r y
