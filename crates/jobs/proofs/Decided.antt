@@ -1,21 +1,21 @@
 -- Where a memory is decided, so is every reply of a job on it. Assumes nothing.
-use Rattle.std.proofs.Common.{◌≡◌, ℕ, zero, suc, ◌+◌, Bool, true, false, cond, List, [], ◌∷◌, length, Some, None, Ok, Err, Option, Result, refl, ap, ap₂, ◌∙◌}
+use Rattle.std.proofs.Common.{◌≡◌, ℕ, zero, suc, Bool, true, false, cond, List, Some, None, Ok, Err, Option, Result, refl, ap, ap₂, ◌∙◌}
 use Rattle.std.specs.Prelude.{nat_lt}
 use Rattle.book.specs.Instant.{asked}
+use Rattle.bus.specs.Decided.{Decided}
 use Rattle.bus.specs.Meaning.{Keeps, Meaning}
 use Rattle.bus.specs.Settled.{Settles, Waited, outcome}
 use Rattle.bus.specs.declared.request.Answer.{Answer}
 use Rattle.bus.specs.declared.request.Answer.TheVariants.{Wait}
 use Rattle.bus.specs.declared.request.Request.{Request}
 use Rattle.bus.specs.declared.settle.Settled.{Settled}
-use Rattle.jobs.specs.Decided.{Decided, asked_often, cycle, cycled, cycles, early, gone, heeded, late, obeyed, output, replies, run, settled, told}
-use Rattle.jobs.specs.Job.{Done, DoneIf, Heeds, Holds, Works, all_written, answered, denial, lines_of}
+use Rattle.jobs.specs.Coming.{core_shown}
+use Rattle.jobs.specs.Decided.{Sight, asked_often, cycle, cycled, cycles, early, gone, heeded, late, obeyed, run, settled, told}
+use Rattle.jobs.specs.Decided as sight
+use Rattle.jobs.specs.Job.{Heeds, answered}
 use Rattle.jobs.specs.Station.{EarlyObeys, LateObeys, Obeys, Stage, called, load_end, loaded, loading, running, store}
 use Rattle.jobs.specs.Station.{counted as reported}
-use Rattle.lines.specs.Line.{read_line}
-use Rattle.lines.specs.Written.{written}
 use Rattle.lines.specs.declared.fault.JobFault.{JobFault}
-use Rattle.lines.specs.declared.fault.JobFault.TheVariants as fault
 use Rattle.lines.specs.declared.order.Order.{Order}
 use Rattle.lines.specs.declared.order.Order.TheVariants as order
 use Rattle.lines.specs.declared.reply.Reply.{Reply}
@@ -23,19 +23,16 @@ use Rattle.microprogram.specs.Cycle.{advanced, ends, worked}
 use Rattle.r3000.specs.Calls.{Checked, Runs, check_run}
 use Rattle.r3000.specs.Counts.{counted}
 use Rattle.r3000.specs.Cycle.{Asks, Cycle, Cycles}
-use Rattle.r3000.specs.Machine.{Machine, hand, later, with_lines}
+use Rattle.r3000.specs.Limits.{max_lines}
+use Rattle.r3000.specs.Machine.{Machine, fresh, hand, with_lines}
+use Rattle.r3000.specs.Promise.{Upholds}
 use Rattle.r3000.specs.declared.denial.Denial.{Denial}
 use Rattle.r3000.specs.declared.report.Report.{Report}
 
-module _ {S : Type 0} (means : S → Meaning) where
-  -- a core, with what its memory means in the memory's place
-  abbrev pub core_shown : Machine S → Machine Meaning
-  core_shown c = record { state = c.state; lines = c.lines; report = c.report; pile = means c.pile; history = c.history }
-
-  -- a stage, so
-  abbrev pub shown : Stage S → Stage Meaning
-  shown (loading s) = loading (means s)
-  shown (running s c) = running (means s) (core_shown c)
+-- a stage, with what its memory means in the memory's place
+abbrev pub shown : {S : Type 0} → (S → Meaning) → Stage S → Sight
+shown means (loading s) = sight.loading (means s)
+shown means (running s c) = sight.running (core_shown means c)
 
 module _ {S : Type 0} {means : S → Meaning} {steps : S → Request → Answer → S → Type 0} (next : Meaning → Request → Meaning) (keeps : Keeps means steps) (decided : Decided means steps next) where
   told_so : (o : Option Request) (s : S) (a : Option Answer) (t : S) → Asks steps s o a t → (a ≡ told (means s) o) × (means t ≡ gone next (means s) o)
@@ -51,7 +48,7 @@ module _ {S : Type 0} {means : S → Meaning} {steps : S → Request → Answer 
         lines = h.lines i;
         report = (h.report ∙ ap (λ f. counted f (ends (hand c.state).sequencing) c.report) h.freeze) i;
         pile = means d.pile;
-        history = (h.history ∙ ap (later c) h.freeze) i;
+        history = fresh;
       } in
       same ∙ ap₂ (λ a m. cycled a m (core_shown means c)) both.0 both.1
 
@@ -67,58 +64,45 @@ module _ {S : Type 0} {means : S → Meaning} {steps : S → Request → Answer 
   settles q s t r h =
       (h.ends, decided h.asked.0 q h.asked.1 t h.asked.3 ∙ ap (λ m. next m q) (all_waits r.waits q s h.asked.0 h.asked.2) ∙ ap (λ n. next (asked_often next n q (means s)) q) h.waits)
 
-  runs : (m : Meaning) (says : Machine S → Type 0) (n : ℕ) (c d : Machine S) (q : Result Report Denial) → Runs steps says n c q d
-      → (called reported q ≡ (run next m (check_run n c.report) n (core_shown means c)).reply) × (running m (core_shown means d) ≡ (run next m (check_run n c.report) n (core_shown means c)).then)
-  runs m says n c d q h = by (check_run n c.report) h
+  runs : (n : ℕ) (c d : Machine S) (q : Result Report Denial) → Runs steps (Upholds means steps c) n c q d
+      → (called reported q ≡ (run next (check_run n c.report) n (core_shown means c)).reply) × (sight.running (core_shown means d) ≡ (run next (check_run n c.report) n (core_shown means c)).then)
+  runs n c d q h = by (check_run n c.report) h
     where
-      by : (o : Result (Unit {0}) Denial) → Checked o c q d (Cycles steps says n c d × (q ≡ Ok d.report))
-          → (called reported q ≡ (run next m o n (core_shown means c)).reply) × (running m (core_shown means d) ≡ (run next m o n (core_shown means c)).then)
-      by (Err e) h = (ap (called reported) h.0, ap (λ x. running m (core_shown means x)) h.1)
+      by : (o : Result (Unit {0}) Denial) → Checked o c q d (Cycles steps (Upholds means steps c) n c d × (q ≡ Ok d.report))
+          → (called reported q ≡ (run next o n (core_shown means c)).reply) × (sight.running (core_shown means d) ≡ (run next o n (core_shown means c)).then)
+      by (Err e) h = (ap (called reported) h.0, ap (λ x. sight.running (core_shown means x)) h.1)
       by (Ok u) h =
-          let all = all_cycles says n c d h.0 in
-          (ap (called reported) h.1 ∙ ap (λ x. called reported (Ok x.report)) all, ap (running m) all)
+          let all = all_cycles (Upholds means steps c) n c d h.0 in
+          (ap (called reported) h.1 ∙ ap (λ x. called reported (Ok x.report)) all, ap sight.running all)
 
   early_obeys : (s : S) (o : Order) (r : Result Reply JobFault) (e : Stage S) → EarlyObeys means steps s o r e → (r ≡ (early next (means s) o).reply) × (shown means e ≡ (early next (means s) o).then)
   early_obeys s (order.Load address word) r e h =
       let all = settles (store address word) s h.1 h.0 h.2 in
-      (h.3 ∙ ap (λ x. loaded (load_end x)) all.0, ap (shown means) h.4 ∙ ap loading all.1)
+      (h.3 ∙ ap (λ x. loaded (load_end x)) all.0, ap (shown means) h.4 ∙ ap sight.loading all.1)
   early_obeys s order.Start r e h = (h.0, ap (shown means) h.1)
   early_obeys s (order.Lines n) r e h = (h.0, ap (shown means) h.1)
   early_obeys s (order.Run n) r e h = (h.0, ap (shown means) h.1)
   early_obeys s (order.Show n) r e h = (h.0, ap (shown means) h.1)
 
-  late_obeys : (m : Meaning) (says : Machine S → Type 0) (c d : Machine S) (o : Order) (r : Result Reply JobFault) → LateObeys means steps says c o r d
-      → (r ≡ (late next m (core_shown means c) o).reply) × (running m (core_shown means d) ≡ (late next m (core_shown means c) o).then)
-  late_obeys m says c d (order.Load address word) r h = (h.0, ap (λ x. running m (core_shown means x)) h.1)
-  late_obeys m says c d order.Start r h = (h.0, ap (λ x. running m (core_shown means x)) h.1)
-  late_obeys m says c d (order.Lines n) r h = (h.0, ap (λ x. running m (core_shown means x)) h.1 ∙ ap (running m) (set (nat_lt 127 n)))
+  late_obeys : (c d : Machine S) (o : Order) (r : Result Reply JobFault) → LateObeys means steps c o r d
+      → (r ≡ (late next (core_shown means c) o).reply) × (sight.running (core_shown means d) ≡ (late next (core_shown means c) o).then)
+  late_obeys c d (order.Load address word) r h = (h.0, ap (λ x. sight.running (core_shown means x)) h.1)
+  late_obeys c d order.Start r h = (h.0, ap (λ x. sight.running (core_shown means x)) h.1)
+  late_obeys c d (order.Lines n) r h = (h.0, ap (λ x. sight.running (core_shown means x)) h.1 ∙ ap sight.running (set (nat_lt max_lines n)))
     where
       set : (t : Bool) → core_shown means (cond t c (with_lines n c)) ≡ cond t (core_shown means c) (with_lines n (core_shown means c))
       set true = refl
       set false = refl
-  late_obeys m says c d (order.Run n) r h = let all = runs m says n c d h.0 h.1 in (h.2 ∙ all.0, all.1)
-  late_obeys m says c d (order.Show n) r h = (h.0, ap (λ x. running m (core_shown means x)) h.1)
+  late_obeys c d (order.Run n) r h = let all = runs n c d h.0 h.1 in (h.2 ∙ all.0, all.1)
+  late_obeys c d (order.Show n) r h = (h.0, ap (λ x. sight.running (core_shown means x)) h.1)
 
-  obeys : (says : S → Machine S → Type 0) (e g : Stage S) (o : Order) (r : Result Reply JobFault) → Obeys means steps says e o r g
+  obeys : (e g : Stage S) (o : Order) (r : Result Reply JobFault) → Obeys means steps e o r g
       → (r ≡ (obeyed next (shown means e) o).reply) × (shown means g ≡ (obeyed next (shown means e) o).then)
-  obeys says (loading s) g o r h = early_obeys s o r g h
-  obeys says (running s c) g o r h = let all = late_obeys (means s) (says s) c h.0 o r h.1 in (all.0, ap (shown means) h.2 ∙ all.1)
+  obeys (loading s) g o r h = early_obeys s o r g h
+  obeys (running s c) g o r h = let all = late_obeys c h.0 o r h.1 in (all.0, ap (shown means) h.2 ∙ all.1)
 
-  heeds : (says : S → Machine S → Type 0) (e g : Stage S) (n : ℕ) (o : Result Order JobFault) (r : Reply) → Heeds means steps says e n o r g
-      → (r ≡ (heeded next (shown means e) n o).reply) × (shown means g ≡ (heeded next (shown means e) n o).then)
-  heeds says e g n (Err f) r h = (h.0, ap (shown means) h.1)
-  heeds says e g n (Ok o) r h = let all = obeys says e g o h.0 h.1 in (h.2 ∙ ap (answered n) all.0, all.1)
-
-  works : (says : S → Machine S → Type 0) (e f : Stage S) (n : ℕ) (ls : List (List ℕ)) (rs : List Reply) → Works means steps says e n ls rs f → rs ≡ replies next (shown means e) n ls
-  works says e f n [] rs h = h.0
-  works says e f n (l ∷ ls) rs h =
-      let head = heeds says e h.2 n (read_line l) h.0 h.4 in
-      h.3 ∙ ap₂ (λ r qs. r ∷ qs) head.0 (works says h.2 f (n + 1) ls h.1 h.6 ∙ ap (λ g. replies next g (n + 1) ls) head.1)
-
-  -- what is done with a job is what the function says of it
-  pub done_exactly : (pile : S) (job out : List ℕ) → Done means steps pile job out → out ≡ output next (means pile) job
-  done_exactly pile job out h = by (nat_lt 65536 (length job)) h
-    where
-      by : (t : Bool) → DoneIf means steps t pile job out → out ≡ cond t (written (denial 0 fault.TooLong)) (all_written (replies next (loading (means pile)) 1 (lines_of job)))
-      by true h = h
-      by false h = h.3 ∙ ap all_written (works (Holds means steps) (loading pile) h.1 1 (lines_of job) h.0 h.2)
+  -- what is done with a line is what the function says of it
+  pub heeds : (e g : Stage S) (n : ℕ) (o : Result Order JobFault) (rs : List Reply) → Heeds means steps e n o rs g
+      → (rs ≡ (heeded next (shown means e) n o).reply) × (shown means g ≡ (heeded next (shown means e) n o).then)
+  heeds e g n (Err f) rs h = (h.0, ap (shown means) h.1)
+  heeds e g n (Ok o) rs h = let all = obeys e g o h.0 h.1 in (h.2 ∙ ap (answered n) all.0, all.1)

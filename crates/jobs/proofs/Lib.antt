@@ -1,3 +1,4 @@
-pub mod Decided
+mod Coming
+mod Decided
 mod Lines
-mod Working
+mod Promised

@@ -1,5 +1,5 @@
 -- A job at work, as the code has it: the replies that are still to come. Assumes nothing.
-use Rattle.std.specs.Prelude.{◌≡◌, ℕ, List, [], ◌∷◌, ◌++◌, MatchOption, Some, None, Option, option_to_list}
+use Rattle.std.specs.Prelude.{ℕ, List, [], ◌∷◌, ◌++◌, MatchOption, Some, None, Option, option_to_list}
 use Rattle.std.specs.Iterator.{YieldsFirst}
 use Rattle.bus.specs.Decided.{Decided}
 use Rattle.bus.specs.Meaning.{Meaning}

@@ -1,59 +1,72 @@
 //! A whole job.
 
-ghost use Rattle.std.specs.Prelude.{◌≡◌, IfOk};
-ghost use Rattle.jobs.specs.Job.{Done, Heeds, denial};
-ghost use Rattle.lines.specs.Line.{read_line};
-ghost use Rattle.jobs.specs.Station.{Goes, Unsaid};
+ghost use Rattle.std.specs.Prelude.{◌≡◌, ◌+◌, ◌≤◌, length};
+ghost use Rattle.jobs.specs.Job.{lines_of};
+ghost use Rattle.jobs.specs.Limits.{max_job};
 
 use super::cut::Lines;
-use super::station::Station;
+use super::limits::MAX_JOB;
+use super::station::{Station, denial};
 use bus::memory::Bus;
 use lines::fault::JobFault;
-use lines::reading::read;
-use lines::reply::{Denied, Reply};
-use lines::writing::write;
-use std::alloc::{AllocError, Global};
+use lines::reply::Reply;
+use r3000::cpu::Core;
+use r3000::promise::promise;
 
-/// The reply to a denied line.
-fn denial(line: u32, fault: JobFault) -> Reply
-    ensures { result ≡ denial line fault }
-{
-    Reply::Denied(Denied {
-        number: fault.number(),
-        line,
-        address: fault.address(),
-    })
+/// A job at work on a pile: an iterator over the replies that are still to come. Nothing is allocated.
+///
+/// Its lines are done as its replies are asked for. A job of more than 65,536 bytes has one reply, and does nothing.
+#[derive(Drop)]
+pub struct Job<'a, B> {
+    /// A reply that is given before the next line is done.
+    due: Option<Reply>,
+    /// None only while a line is done.
+    station: Option<Station<B, Core<B>>>,
+    /// The number of the next line, from 1.
+    number: u32,
+    lines: Lines<'a>,
+    ghost few: { number + length (lines_of lines.0.now) ≤ max_job + 1 },
 }
 
-impl<B: Bus> Station<B> {
-    /// A line, and its reply.
-    fn heed(self, number: u32, line: &[u8]) -> (Station<B>, Reply)
-        ensures { Goes (λ e f. Heeds B.Bus.means B.Bus.steps Unsaid e number (read_line line.now) result.1 f) self result.0 }
+impl<'a, B: Bus> Job<'a, B> {
+    ghost use Rattle.r3000.specs.Machine.{History};
+    ghost use Rattle.jobs.specs.Coming.{standing};
+    ghost use Rattle.jobs.specs.Job.{begun};
+
+    /// A job that is still to be done, on a pile.
+    pub fn new(pile: B, bytes: &'a [u8]) -> Job<'a, B>
+        ensures { (start : B) (h : History) → standing start h result ≡ begun pile bytes.now }
     {
-        let (station, end) = match read(line) {
-            Ok(order) => self.obey(order),
-            Err(fault) => (self, Err(fault)),
-        };
-        (station, end.unwrap_or_else(|fault| denial(number, fault)))
+        let too_long = bytes.len() > MAX_JOB;
+        Job {
+            due: too_long.then_some(denial(0, JobFault::TooLong)),
+            station: Some(Station::Loading(pile)),
+            number: 1,
+            lines: Lines(if too_long { &[] } else { bytes }),
+        }
     }
 }
 
-/// The most bytes of a job.
-const LONGEST: usize = 65_536;
+impl<'a, B: Bus + Drop> Iterator for Job<'a, B> {
+    ghost use Rattle.std.specs.Prelude.{◌+◌, length, option_to_list};
+    ghost use Rattle.std.specs.Iterator.{at_most};
+    ghost use Rattle.jobs.specs.Coming.{NextGives, left_of};
 
-/// Runs a job on a pile: its lines one after another. The bytes of their replies come back.
-pub fn run<B: Bus + Drop>(heap: Global, pile: B, job: &[u8]) -> Result<Vec<u8>, AllocError>
-    ensures { IfOk result (λ v. Done B.Bus.means B.Bus.steps pile job.now v.items) }
-{
-    if job.len() > LONGEST {
-        return write(heap, denial(0, JobFault::TooLong));
+    type Item = Reply;
+
+    ghost next_gives = { NextGives B.Bus.means B.Bus.steps };
+
+    ghost remaining = { λ x. at_most (length (option_to_list x.due) + length (left_of x.station x.lines.0.now)) };
+
+    fn next(&mut self) -> Option<Reply> {
+        promise::<B>();
+        if let Some(reply) = self.due.take() {
+            return Some(reply);
+        }
+        let line = self.lines.next()?;
+        let (station, reply) = self.station.take()?.heed(self.number, line);
+        self.station = Some(station);
+        self.number += 1;
+        Some(reply)
     }
-    let mut station = Station::Loading(pile);
-    let mut output = Vec::new(heap);
-    for (number, line) in (1..).zip(Lines(job)) {
-        let reply;
-        (station, reply) = station.heed(number, line);
-        output.extend_from_slice(&write(heap, reply)?)?;
-    }
-    Ok(output)
 }

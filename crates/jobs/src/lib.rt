@@ -4,4 +4,5 @@
 
 mod cut;
 pub mod job;
+pub mod limits;
 pub mod station;

@@ -1,38 +1,61 @@
 //! Where a job stands: loading, or running.
 
-ghost use Rattle.std.specs.Prelude.{◌≡◌};
-ghost use Rattle.r3000.specs.Core.{Happens, Anything};
+ghost use Rattle.std.specs.Prelude.{◌≡◌, ◌∷◌, []};
 ghost use Rattle.r3000.specs.Machine.{fresh};
+ghost use Rattle.r3000.specs.Promise.{Happens};
 ghost use Rattle.bus.specs.Settled.{Settles};
 ghost use Rattle.bus.specs.declared.settle.Settled.{Settled};
-ghost use Rattle.jobs.specs.Station.{EarlyObeys, Goes, LateObeys, Obeys, load_end, loaded, stage, store, Unsaid};
+ghost use Rattle.jobs.specs.Job.{Heeds, denial};
+ghost use Rattle.jobs.specs.Station.{EarlyObeys, Goes, LateObeys, Obeys, load_end, loaded, stage, store};
+ghost use Rattle.lines.specs.Line.{read_line};
 
 use bus::memory::Bus;
 use bus::request::{Request, Width};
 use bus::settle::settle;
 use lines::fault::{JobFault, LoadFault};
 use lines::order::Order;
-use lines::reply::Reply;
+use lines::reading::read;
+use lines::reply::{Denied, Reply};
 use r3000::cpu::Core;
+use r3000::promise::promise;
 
 /// A pile before the start, a core after it.
+// The core is a type of its own here: of an enum that names it the toolchain does not see how it is dropped elsewhere.
 #[derive(Drop)]
-pub enum Station<B> {
-    Loading(B),
-    Running(Core<B>),
+pub enum Station<P, C> {
+    Loading(P),
+    Running(C),
 }
 
-/// Loads a word. A refusal of the bus becomes the load's fault, and goes up as the line's.
+/// Writes a word, and waits it out. A refusal of the bus becomes the load's fault.
+fn write<B: Bus>(pile: &mut B, address: u32, word: u32) -> Result<(), LoadFault>
+    ensures { (q : Settled) × Settles B.Bus.means B.Bus.steps pile.old (store address word) q pile.new × (result ≡ load_end q.outcome) }
+{
+    settle(pile, Request::write(Width::Word, address, word)).outcome?;
+    Ok(())
+}
+
+/// Loads a word. The load's fault goes up as the line's.
 fn load<B: Bus>(pile: &mut B, address: u32, word: u32) -> Result<Reply, JobFault>
     ensures { (q : Settled) × Settles B.Bus.means B.Bus.steps pile.old (store address word) q pile.new × (result ≡ loaded (load_end q.outcome)) }
 {
-    let request = Request::write(Width::Word, address, word);
-    settle(pile, request).outcome.map_err(LoadFault::from)?;
+    write(pile, address, word)?;
     Ok(Reply::Loaded)
 }
 
+/// The reply to a denied line.
+pub(crate) fn denial(line: u32, fault: JobFault) -> Reply
+    ensures { result ≡ denial line fault }
+{
+    Reply::Denied(Denied {
+        number: fault.number(),
+        line,
+        address: fault.address(),
+    })
+}
+
 /// An order before the start.
-fn early<B: Bus>(mut pile: B, order: Order) -> (Station<B>, Result<Reply, JobFault>)
+fn early<B: Bus>(mut pile: B, order: Order) -> (Station<B, Core<B>>, Result<Reply, JobFault>)
     ensures { EarlyObeys B.Bus.means B.Bus.steps pile order result.1 (stage pile fresh result.0) }
 {
     match order {
@@ -49,8 +72,9 @@ fn early<B: Bus>(mut pile: B, order: Order) -> (Station<B>, Result<Reply, JobFau
 
 /// An order after the start.
 fn late<B: Bus>(core: &mut Core<B>, order: Order) -> Result<Reply, JobFault>
-    ensures { Happens (λ c d. LateObeys B.Bus.means B.Bus.steps Anything c order result d) core.old core.new }
+    ensures { Happens B.Bus.means B.Bus.steps (λ c d. LateObeys B.Bus.means B.Bus.steps c order result d) core.old core.new }
 {
+    promise::<B>();
     match order {
         Order::Load(_, _) | Order::Start => Err(JobFault::AfterStart),
         Order::Lines(lines) => {
@@ -62,11 +86,12 @@ fn late<B: Bus>(core: &mut Core<B>, order: Order) -> Result<Reply, JobFault>
     }
 }
 
-impl<B: Bus> Station<B> {
+impl<B: Bus> Station<B, Core<B>> {
     /// Does what a line asks for.
-    pub fn obey(self, order: Order) -> (Station<B>, Result<Reply, JobFault>)
-        ensures { Goes (λ e f. Obeys B.Bus.means B.Bus.steps Unsaid e order result.1 f) self result.0 }
+    fn obey(self, order: Order) -> (Station<B, Core<B>>, Result<Reply, JobFault>)
+        ensures { Goes B.Bus.means B.Bus.steps (λ e f. Obeys B.Bus.means B.Bus.steps e order result.1 f) self result.0 }
     {
+        promise::<B>();
         match self {
             Station::Loading(pile) => early(pile, order),
             Station::Running(mut core) => {
@@ -74,5 +99,17 @@ impl<B: Bus> Station<B> {
                 (Station::Running(core), reply)
             }
         }
+    }
+
+    /// A line, and its reply.
+    pub(crate) fn heed(self, number: u32, line: &[u8]) -> (Station<B, Core<B>>, Reply)
+        ensures { Goes B.Bus.means B.Bus.steps (λ e f. Heeds B.Bus.means B.Bus.steps e number (read_line line.now) (result.1 ∷ []) f) self result.0 }
+    {
+        promise::<B>();
+        let (station, end) = match read(line) {
+            Ok(order) => self.obey(order),
+            Err(fault) => (self, Err(fault)),
+        };
+        (station, end.unwrap_or_else(|fault| denial(number, fault)))
     }
 }
