@@ -1,8 +1,9 @@
 -- The pile that jobs run on is decided. Assumes nothing.
-use Rattle.std.proofs.Common.{◌≡◌, ℕ, ◌+◌, ◌-◌, ◌≤◌, min, Bool, true, false, cond, ◌&&◌, Some, None, sym, refl, ap, ap₂, ◌∙◌, arith}
+use Rattle.std.proofs.Common.{◌≡◌, ℕ, ◌+◌, ◌-◌, ◌≤◌, min, Bool, true, false, cond, ◌&&◌, sym, refl, ap, ap₂, ◌∙◌, arith}
 use Rattle.std.specs.Prelude.{MatchBool, nat_lt}
 use Rattle.std.proofs.Math.Path.{subst₃}
 use Rattle.std.proofs.lemmas.Bool.{le-ltb, lt-ltb, ltb-false, ltb-true}
+use Rattle.bus.specs.Decided.{Decided}
 use Rattle.bus.specs.Meaning.{Keeps, Meaning, answer, carried, refused, stalled}
 use Rattle.bus.specs.Request.{access_of, same, word_of}
 use Rattle.bus.specs.declared.request.Access.{Access}
@@ -12,16 +13,14 @@ use Rattle.bus.specs.declared.request.Request.{Request}
 use Rattle.layers.specs.Delay.{DelaySteps, delay_means, ended, left, lowered}
 use Rattle.layers.specs.Keeps.Delay.{delay_keeps}
 use Rattle.layers.specs.Keeps.Split.{split_keeps}
-use Rattle.layers.specs.Split.{SplitSteps, split_means}
 use Rattle.layers.specs.declared.delay.Delay.{Delay}
-use Rattle.layers.specs.declared.split.Split.{Split}
+use Rattle.layers.specs.declared.delay.State.TheVariants.{Idle, Counting}
 use Rattle.memories.specs.Keeps.Region.{ram_keeps}
-use Rattle.memories.specs.Ram.{RamSteps, ram_means}
-use Rattle.memories.specs.declared.ram.Ram.{Ram}
 use Rattle.pile.specs.Decided.{next}
+use Rattle.pile.specs.Job.{PileSteps, pile_means}
 
 -- an answer that is no wait leaves a delay idle
-idle : (x : Access) (b r : Bool) (w : ℕ) → b ≡ false → ended x (cond b Wait (cond r BusError (Done w))) ≡ None
+idle : (x : Access) (b r : Bool) (w : ℕ) → b ≡ false → ended x (cond b Wait (cond r BusError (Done w))) ≡ Idle
 idle x true r w e = absurd (cc)
 idle x false true w e = refl
 idle x false false w e = refl
@@ -49,7 +48,7 @@ module _ {A : Type 0} {means : A → Meaning} {steps : A → Request → Answer 
       k = lowered s.n (means s.below).longest
 
       c : ℕ
-      c = left k s.counting (access_of q)
+      c = left k s.state (access_of q)
 
       same_top : lowered t.n (means t.below).longest ≡ k
       same_top = ap₂ lowered h.0 (never t.below ∙ sym (never s.below))
@@ -57,7 +56,7 @@ module _ {A : Type 0} {means : A → Meaning} {steps : A → Request → Answer 
       bound : c ≤ k
       bound = omega (arith, ((delay_keeps keeps).sound s).waits (access_of q), at_once s.below (access_of q), never s.below)
 
-      go : (b : Bool) → nat_lt 0 c ≡ b → MatchBool b ((a ≡ Wait) × (t.counting ≡ Some (record { access = access_of q; count = c - 1 })) × (t.below ≡ s.below)) (steps s.below q a t.below × (t.counting ≡ ended (access_of q) a)) → (delay_means means t).waits x ≡ (next m q).waits x
+      go : (b : Bool) → nat_lt 0 c ≡ b → MatchBool b ((a ≡ Wait) × (t.state ≡ Counting (access_of q) (c - 1)) × (t.below ≡ s.below)) (steps s.below q a t.below × (t.state ≡ ended (access_of q) a)) → (delay_means means t).waits x ≡ (next m q).waits x
       go true e h1 =
           let stalls : stalled m q ≡ true = lt-ltb 0 _ (omega (arith, ltb-true 0 c e)) in
           subst₃ (λ n o w. left n o x + w ≡ (next m q).waits x) (sym same_top) (sym h1.1) (sym (at_once t.below x))
@@ -65,7 +64,7 @@ module _ {A : Type 0} {means : A → Meaning} {steps : A → Request → Answer 
       go false e h1 =
           let goes : stalled m q ≡ false = le-ltb 0 _ (omega (arith, ltb-false 0 c e, at_once s.below (access_of q))) in
           let answers : a ≡ answer m q = ((delay_keeps keeps).tells s q a t h).answered in
-          let done : t.counting ≡ None = h1.1 ∙ ap (ended (access_of q)) answers ∙ idle (access_of q) (stalled m q) (refused m q) (carried m q) goes in
+          let done : t.state ≡ Idle = h1.1 ∙ ap (ended (access_of q)) answers ∙ idle (access_of q) (stalled m q) (refused m q) (carried m q) goes in
           subst₃ (λ n o w. left n o x + w ≡ (next m q).waits x) (sym same_top) (sym done) (sym (at_once t.below x))
           (fills (stalled m q) (same (access_of q) x) c k ((means s.below).waits (access_of q)) ((means s.below).longest) goes (never s.below))
 
@@ -86,7 +85,5 @@ both_zero true = refl
 both_zero false = refl
 
 -- each request makes of the pile's meaning exactly the next one
-pub decided : (s : Delay (Split Ram Ram)) (q : Request) (a : Answer) (t : Delay (Split Ram Ram))
-    → DelaySteps (split_means ram_means ram_means) (SplitSteps RamSteps RamSteps) s q a t
-    → delay_means (split_means ram_means ram_means) t ≡ next (delay_means (split_means ram_means ram_means) s) q
+pub decided : Decided pile_means PileSteps next
 decided = delay_decided (split_keeps ram_keeps ram_keeps) (λ s x. both_zero (nat_lt x.address (word_of s.mark))) (λ s. refl)

@@ -1,10 +1,9 @@
 //! One wait for each request, over two RAMs side by side.
 
-ghost use Rattle.std.specs.Prelude.{◌≡◌};
-ghost use Rattle.layers.specs.Delay.{delay_means};
-ghost use Rattle.memories.specs.Ram.{ram_means};
-ghost use Rattle.layers.specs.Split.{split_means};
-ghost use Rattle.pile.specs.Job.{job_pile};
+ghost use Rattle.std.specs.Prelude.{◌≡◌, replicate};
+ghost use Rattle.bus.specs.Decided.{Decided};
+ghost use Rattle.pile.specs.Decided.{next};
+ghost use Rattle.pile.specs.Job.{PileSteps, high_length, job_pile, low_length, pile_means};
 
 use layers::delay::Delay;
 use layers::split::Split;
@@ -23,12 +22,37 @@ pub const HIGH_LENGTH: usize = 4_096;
 
 pub type Pile<'a> = Delay<Split<Ram<'a>, Ram<'a>>>;
 
-/// One wait for each request, over RAM at 80000000 and at BFC00000.
-pub fn pile<'a>(low: &'a mut [u8], high: &'a mut [u8]) -> Pile<'a>
-    ensures { delay_means (split_means ram_means ram_means) result ≡ job_pile low.old high.old }
-{
-    Delay::new(
-        1,
-        Split::new(MARK, Ram::new(LOW_BASE, low), Ram::new(HIGH_BASE, high)),
-    )
+/// The bytes that the pile stands on.
+#[derive(Drop)]
+pub struct Memories {
+    low: [u8; LOW_LENGTH],
+    high: [u8; HIGH_LENGTH],
 }
+
+impl Memories {
+    /// Zeroes alone.
+    pub fn zeroed() -> Memories
+        ensures low { result.low ≡ replicate low_length 0 }
+        ensures high { result.high ≡ replicate high_length 0 }
+    {
+        Memories {
+            low: [0; LOW_LENGTH],
+            high: [0; HIGH_LENGTH],
+        }
+    }
+
+    /// Lends the bytes to the pile: one wait for each request, over RAM at 80000000 and at BFC00000.
+    pub fn pile(&mut self) -> Pile<'_>
+        ensures { pile_means result ≡ job_pile self.old.low self.old.high }
+    {
+        let Memories { low, high } = self;
+        let split = Split::new(MARK, Ram::new(LOW_BASE, low), Ram::new(HIGH_BASE, high));
+        Delay::new(1, split)
+    }
+}
+
+/// The pile is decided: each request makes of what it means exactly the next meaning. A proof and no code: the crates
+/// above call it for its contract. `Decided` is of `Rattle.bus.specs.Decided`.
+pub fn goes_on()
+    ensures { Decided pile_means PileSteps next }
+{}

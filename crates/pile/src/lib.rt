@@ -3,3 +3,5 @@
 #![tactic(auto)]
 
 pub mod job;
+#[cfg(test)]
+mod tests;
