@@ -12,18 +12,18 @@ pub right : (a b : Bool) → T (a && b) → T b
 right true b h = h
 right false b h = absurd h
 
-at : (m n : ℕ) → n < m → T (sound_below m) → T (sound n)
+at : (bound m n : ℕ) → n < m → T (sound_below bound m) → T (sound bound n)
 unfolding sound_below
-at zero n h t = absurd (omega arith)
-at (suc m) n h t = go (cases_eq n m) (left (sound m) (sound_below m) t) (λ l. at m n l (right (sound m) (sound_below m) t))
+at bound zero n h t = absurd (omega arith)
+at bound (suc m) n h t = go (cases_eq n m) (left (sound bound m) (sound_below bound m) t) (λ l. at bound m n l (right (sound bound m) (sound_below bound m) t))
   where
-    go : (n ≡ m) ⊎ (n ≡ m → ⊥) → T (sound m) → (n < m → T (sound n)) → T (sound n)
+    go : (n ≡ m) ⊎ (n ≡ m → ⊥) → T (sound bound m) → (n < m → T (sound bound n)) → T (sound bound n)
     go (inl e) this those = rw e this
     go (inr e) this those = those (omega arith)
 
-tested : T (sound_below 1024)
+tested : T (sound_below 7 1024)
 unfolding sound_below ending rows
 tested = tt
 
-pub rows_end : RowsEnd
-rows_end n h = at 1024 n h tested
+pub rows_end : RowsEnd 7
+rows_end n h = at 7 1024 n h tested

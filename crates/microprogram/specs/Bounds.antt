@@ -1,6 +1,7 @@
 -- How the rows hang together: one test over all of them, and what it says. Assumes nothing.
-use Rattle.std.specs.Prelude.{ℕ, zero, suc, ◌+◌, ◌-◌, ◌*◌, ◌/◌, ◌<◌, Bool, true, false, ◌&&◌, T, List, [], ◌∷◌, nat_le, nat_lt}
-use Rattle.microprogram.specs.Cycle.{ends}
+use Rattle.std.specs.Prelude.{ℕ, zero, suc, ◌+◌, ◌-◌, ◌*◌, ◌/◌, ◌<◌, Bool, true, false, ◌&&◌, T, List, [], ◌∷◌, nat_le, nat_lt, Contains}
+use Rattle.microprogram.specs.Cycle.{ends, following}
+use Rattle.microprogram.specs.Registers.{Regs}
 use Rattle.rows.specs.Rows.{row_at}
 use Rattle.rows.specs.declared.row.Sequencing.{Sequencing}
 use Rattle.rows.specs.declared.row.Sequencing.TheVariants as s
@@ -43,15 +44,26 @@ ending (suc rows) touch n =
     nat_le (accesses (row_at n).transfer) touch
     && elim (ends (row_at n).sequencing) [ true ↦ true | false ↦ all (ending rows (touch - accesses (row_at n).transfer)) (successors (row_at n).sequencing (row_at n).amic) ]
 
--- the test of one row: its successors are rows, and it ends within seven rows and two accesses
-abbrev pub sound : ℕ → Bool
-sound n = all (λ k. nat_lt k 1024) (successors (row_at n).sequencing (row_at n).amic) && ending 7 2 n
+-- how many accesses the rows of a path make at most
+abbrev pub most_accesses : ℕ
+most_accesses = 2
 
-unfoldable pub sound_below : ℕ → Bool
-sound_below zero = true
-sound_below (suc n) = sound n && sound_below n
+-- the test of one row: its successors are rows, and it ends within so many rows and the most accesses
+abbrev pub sound : ℕ → ℕ → Bool
+sound bound n =
+    all (λ k. nat_lt k 1024) (successors (row_at n).sequencing (row_at n).amic) && ending bound most_accesses n
 
--- from every row at most seven rows, itself counted, lead to one that ends a path; at most two of them access memory;
--- and every row that can follow is one of the 1,024
-abbrev pub RowsEnd : Type 0
-RowsEnd = (n : ℕ) → n < 1024 → T (sound n)
+unfoldable pub sound_below : ℕ → ℕ → Bool
+sound_below bound zero = true
+sound_below bound (suc n) = sound bound n && sound_below bound n
+
+-- from every row at most so many rows, itself counted, lead to one that ends a path; at most two of them access memory;
+-- and every row that is listed as its successor is one of the 1,024
+abbrev pub RowsEnd : ℕ → Type 0
+RowsEnd bound = (n : ℕ) → n < 1024 → T (sound bound n)
+
+-- the row that follows is one of the listed successors, whatever the registers, the result, the lines and the flag
+abbrev pub RowsListed : Type 0
+RowsListed =
+    (q : Sequencing) (amic : ℕ) (g : Regs) (res : ℕ) (zero? : Bool) (lines : ℕ) (flag : Bool)
+    → Contains (successors q amic) (following q amic g res zero? lines flag)

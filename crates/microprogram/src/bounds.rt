@@ -1,12 +1,13 @@
 //! That every path of rows is short.
 
 ghost use Rattle.std.specs.Prelude.{◌≡◌};
-ghost use Rattle.microprogram.specs.Bounds.{RowsEnd};
+ghost use Rattle.microprogram.specs.Bounds.{RowsEnd, RowsListed};
 
-/// A bound on the rows that a path can still have, its present one counted.
+/// A bound on the rows that a path can still have, its present one counted. Which rows can follow one is listed.
 pub fn longest_path() -> u8
-    ensures bounded { RowsEnd }
     ensures value { result ≡ 7 }
+    ensures bounded { RowsEnd result }
+    ensures listed { RowsListed }
 {
     7
 }
