@@ -13,7 +13,6 @@ use Rattle.book.proofs.Jumps.{joined_small, put_small}
 use Rattle.book.proofs.Straight.{extended_small}
 use Rattle.book.proofs.System.{causes_small}
 use Rattle.book.proofs.Walk.{below}
-use Rattle.rows.proofs.Integers.{residue_below}
 use Rattle.microprogram.specs.Cycle.{misplaced}
 use Rattle.microprogram.specs.Fault.{code}
 use Rattle.rows.specs.Operation.{one_if, residue, result_of}
@@ -49,9 +48,9 @@ pick : {A : Type 0} (P : A → Type 0) {x y : A} (t : Bool) → P x → P y → 
 pick P true here there = here
 pick P false here there = there
 
-residue_64 : (z : ℤ) → residue z (2 ^ 64) < 2 ^ 64
-residue_64 (pos n) = omega arith
-residue_64 (negsuc n) = omega arith
+residue_below : (z : ℤ) (n : ℕ) → 0 < n → residue z n < n
+residue_below (pos m) n h = omega arith
+residue_below (negsuc m) n h = omega arith
 
 one_small : (t : Bool) → one_if t < 2 ^ 32
 one_small t = pick (λ n. n < 2 ^ 32) t (omega arith) (omega arith)
@@ -66,17 +65,17 @@ result_small Xor x y p q = xor_lt 32 x y p q
 result_small Nor x y p q = omega arith
 result_small Sll x y p q = below _
 result_small Srl x y p q = omega (arith, shr_le x (y % 32))
-result_small Sra x y p q = residue_below _
+result_small Sra x y p q = residue_below _ _ (omega arith)
 result_small Sltu x y p q = one_small _
 result_small Slt x y p q = one_small _
 result_small Mul x y p q = below _
 result_small Muh x y p q = div_below (x * y) (2 ^ 32) (2 ^ 32) (omega arith) (mul-lt x y (2 ^ 32) (2 ^ 32) p q)
-result_small Msl x y p q = residue_below _
-result_small Msh x y p q = div_below _ (2 ^ 32) (2 ^ 32) (omega arith) (residue_64 _)
+result_small Msl x y p q = residue_below _ _ (omega arith)
+result_small Msh x y p q = div_below _ (2 ^ 32) (2 ^ 32) (omega arith) (residue_below _ (2 ^ 64) (omega arith))
 result_small Duq x y p q = pick (λ n. n < 2 ^ 32) (eqb y 0) (omega arith) (omega (arith, div-le_self x y))
 result_small Dur x y p q = pick (λ n. n < 2 ^ 32) (eqb y 0) p (omega arith)
-result_small Dsq x y p q = pick (λ n. n < 2 ^ 32) (eqb y 0) (omega arith) (residue_below _)
-result_small Dsr x y p q = pick (λ n. n < 2 ^ 32) (eqb y 0) p (residue_below _)
+result_small Dsq x y p q = pick (λ n. n < 2 ^ 32) (eqb y 0) (omega arith) (residue_below _ _ (omega arith))
+result_small Dsr x y p q = pick (λ n. n < 2 ^ 32) (eqb y 0) p (residue_below _ _ (omega arith))
 
 shift_small : (ir : ℕ) → shift ir < 2 ^ 32
 shift_small ir = omega arith

@@ -13,4 +13,3 @@ mod Straight
 mod System
 mod Upto
 mod Walk
-mod Worked

@@ -1,6 +1,7 @@
 -- Worked cases of the book. Assumes nothing.
 use Rattle.std.specs.Prelude.{◌≡◌, ℕ, false, ◌∷◌, replicate, ◌==◌}
 use Rattle.book.specs.Book.{Book, Event, Refusals, step}
+use Rattle.book.specs.declared.law.WorkedCases.{WorkedCases}
 use Rattle.microprogram.specs.Ledger.{blank}
 use Rattle.microprogram.specs.Word.{cause}
 
@@ -29,27 +30,28 @@ once r b = step r 0 b
 abbrev twice : Refusals → Book → Book
 twice r b = step r 0 (step r 0 b)
 
-pub record WorkedCases : Type 0 where
-  -- ADD of 7FFFFFFF and 1 enters with code 12, and BAR has the sum
-  pub add_code : cause (twice free (running 0x00221820 0 0x7FFFFFFF 1 0)).regs.cr ≡ 12
-  pub add_bar : (twice free (running 0x00221820 0 0x7FFFFFFF 1 0)).regs.bar ≡ 0x80000000
+-- the words are what the book comes to
+pub record Worked (w : WorkedCases) : Type 0 where
+  -- ADD of 7FFFFFFF and 1 enters with a code, and BAR has the sum
+  pub add_code : w.add_code ≡ cause (twice free (running 0x00221820 0 0x7FFFFFFF 1 0)).regs.cr
+  pub add_bar : w.add_bar ≡ (twice free (running 0x00221820 0 0x7FFFFFFF 1 0)).regs.bar
   -- DIV of 80000000 by FFFFFFFF
-  pub least_quotient : (once free (running 0x0022001A 0 0x80000000 0xFFFFFFFF 0)).regs.lo ≡ 0x80000000
-  pub least_remainder : (once free (running 0x0022001A 0 0x80000000 0xFFFFFFFF 0)).regs.hi ≡ 0
+  pub least_quotient : w.least_quotient ≡ (once free (running 0x0022001A 0 0x80000000 0xFFFFFFFF 0)).regs.lo
+  pub least_remainder : w.least_remainder ≡ (once free (running 0x0022001A 0 0x80000000 0xFFFFFFFF 0)).regs.hi
   -- DIV of -7 by 2 cuts toward zero
-  pub odd_quotient : (once free (running 0x0022001A 0 0xFFFFFFF9 2 0)).regs.lo ≡ 0xFFFFFFFD
-  pub odd_remainder : (once free (running 0x0022001A 0 0xFFFFFFF9 2 0)).regs.hi ≡ 0xFFFFFFFF
+  pub odd_quotient : w.odd_quotient ≡ (once free (running 0x0022001A 0 0xFFFFFFF9 2 0)).regs.lo
+  pub odd_remainder : w.odd_remainder ≡ (once free (running 0x0022001A 0 0xFFFFFFF9 2 0)).regs.hi
   -- DIVU of 7 by 0
-  pub zero_quotient : (once free (running 0x0022001B 0 7 0 0)).regs.lo ≡ 0xFFFFFFFF
-  pub zero_remainder : (once free (running 0x0022001B 0 7 0 0)).regs.hi ≡ 7
+  pub zero_quotient : w.zero_quotient ≡ (once free (running 0x0022001B 0 7 0 0)).regs.lo
+  pub zero_remainder : w.zero_remainder ≡ (once free (running 0x0022001B 0 7 0 0)).regs.hi
   -- JALR at 80000100 whose rd is its rs reads the link that it has just written
-  pub link_first : (once free (running 0x00200809 0x80000100 0x1000 0 0)).regs.pc ≡ 0x80000104
+  pub link_first : w.link_first ≡ (once free (running 0x00200809 0x80000100 0x1000 0 0)).regs.pc
   -- SR 00000401, IT0 up at the boundary before PC 80000200: the entry saves PC itself
-  pub interrupt_epc : (step free 0 (step free 1 (running 0 0x800001FC 0 0 0x401))).regs.epc ≡ 0x80000200
-  pub interrupt_sr : (step free 0 (step free 1 (running 0 0x800001FC 0 0 0x401))).regs.sr ≡ 0x404
+  pub interrupt_epc : w.interrupt_epc ≡ (step free 0 (step free 1 (running 0 0x800001FC 0 0 0x401))).regs.epc
+  pub interrupt_sr : w.interrupt_sr ≡ (step free 0 (step free 1 (running 0 0x800001FC 0 0 0x401))).regs.sr
   -- a fetch that is refused at 80004000
-  pub fetch_epc : (twice short (running 0 0x80003FFC 0 0 0)).regs.epc ≡ 0x80003FFC
-  pub fetch_code : cause (twice short (running 0 0x80003FFC 0 0 0)).regs.cr ≡ 6
+  pub fetch_epc : w.fetch_epc ≡ (twice short (running 0 0x80003FFC 0 0 0)).regs.epc
+  pub fetch_code : w.fetch_code ≡ cause (twice short (running 0 0x80003FFC 0 0 0)).regs.cr
   -- LW at 80000002
-  pub load_code : cause (twice free (running 0x8C220000 0 0x80000002 0 0)).regs.cr ≡ 4
-  pub load_bar : (twice free (running 0x8C220000 0 0x80000002 0 0)).regs.bar ≡ 0x80000002
+  pub load_code : w.load_code ≡ cause (twice free (running 0x8C220000 0 0x80000002 0 0)).regs.cr
+  pub load_bar : w.load_bar ≡ (twice free (running 0x8C220000 0 0x80000002 0 0)).regs.bar

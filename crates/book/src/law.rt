@@ -1,7 +1,7 @@
 //! What is proved of the book.
 
 ghost use Rattle.std.specs.Prelude.{◌≡◌};
-ghost use Rattle.book.specs.Cases.{WorkedCases};
+ghost use Rattle.book.specs.Cases.{Worked};
 ghost use Rattle.book.specs.Instant.{StillKeeps};
 ghost use Rattle.book.specs.Length.{LongestStep};
 ghost use Rattle.book.specs.Path.{Begins, StepsArePaths, StepsFit};
@@ -17,10 +17,45 @@ pub fn longest_step() -> u8
     7
 }
 
-/// How many cases of the book are worked out in `specs/Cases.antt`.
-pub fn worked_cases() -> u8
-    ensures cases { WorkedCases }
-    ensures count { result ≡ 8 }
+/// The words that the worked cases come to, each by the name that `specs/Cases.antt` gives it.
+#[derive(Clone, Copy)]
+pub struct WorkedCases {
+    pub add_code: u32,
+    pub add_bar: u32,
+    pub least_quotient: u32,
+    pub least_remainder: u32,
+    pub odd_quotient: u32,
+    pub odd_remainder: u32,
+    pub zero_quotient: u32,
+    pub zero_remainder: u32,
+    pub link_first: u32,
+    pub interrupt_epc: u32,
+    pub interrupt_sr: u32,
+    pub fetch_epc: u32,
+    pub fetch_code: u32,
+    pub load_code: u32,
+    pub load_bar: u32,
+}
+
+/// Cases of the book, worked out.
+pub fn worked_cases() -> WorkedCases
+    ensures { Worked result }
 {
-    8
+    WorkedCases {
+        add_code: 12,
+        add_bar: 0x8000_0000,
+        least_quotient: 0x8000_0000,
+        least_remainder: 0,
+        odd_quotient: 0xFFFF_FFFD,
+        odd_remainder: 0xFFFF_FFFF,
+        zero_quotient: 0xFFFF_FFFF,
+        zero_remainder: 7,
+        link_first: 0x8000_0104,
+        interrupt_epc: 0x8000_0200,
+        interrupt_sr: 0x0000_0404,
+        fetch_epc: 0x8000_3FFC,
+        fetch_code: 6,
+        load_code: 4,
+        load_bar: 0x8000_0002,
+    }
 }

@@ -1,6 +1,23 @@
+-- The worked cases, computed.
 use Rattle.std.proofs.Common.{refl}
-use Rattle.book.proofs.Worked.{worked}
 use Rattle.book.proofs.law.worked_cases.Goals as goal
 
 pub returns : goal.returns
-returns c = record { cases = worked; count = refl }
+returns c =
+    record {
+      add_code = refl;
+      add_bar = refl;
+      least_quotient = refl;
+      least_remainder = refl;
+      odd_quotient = refl;
+      odd_remainder = refl;
+      zero_quotient = refl;
+      zero_remainder = refl;
+      link_first = refl;
+      interrupt_epc = refl;
+      interrupt_sr = refl;
+      fetch_epc = refl;
+      fetch_code = refl;
+      load_code = refl;
+      load_bar = refl;
+    }
