@@ -6,35 +6,39 @@ mod firmware;
 mod script;
 mod transcript;
 
+use anyhow::Context;
 use bus::memory::Bus;
 use bus::request::{Request, Width};
 use bus::settle::settle;
 use firmware::Section;
-use pile::job;
+use pile::job::Memories;
 use r3000::perform::perform;
+use transcript::Loaded;
 
 /// Writes the words of a section into the pile, waiting out each.
 fn load<B: Bus>(rt: &impl Print, pile: &mut B, section: Section<'_>) -> anyhow::Result<()> {
     for (address, word) in (section.base..).step_by(4).zip(section.words) {
         let settled = settle(pile, Request::write(Width::Word, address, *word));
-        transcript::loaded(rt, address, *word, settled)?;
+        let loaded = Loaded {
+            address,
+            word: *word,
+            settled,
+        };
+        println!(rt; "{loaded}")?;
     }
     Ok(())
 }
 
 /// Loads the firmware, starts a core on the pile, and performs the script.
 fn run(rt: &(impl Print + AllocGlobal)) -> anyhow::Result<()> {
-    let heap = rt.alloc();
-    let mut low = vec![in heap; 0u8; job::LOW_LENGTH]?;
-    let mut high = vec![in heap; 0u8; job::HIGH_LENGTH]?;
-    let mut pile = job::pile(&mut low, &mut high);
+    let mut memories = Memories::zeroed();
+    let mut pile = memories.pile();
     load(rt, &mut pile, firmware::RESET)?;
     load(rt, &mut pile, firmware::HANDLER)?;
-    let calls = script::calls(heap)?;
-    match perform(heap, pile, &calls) {
-        Ok(performance) => transcript::performed(rt, &calls, &performance.replies),
-        Err(_) => Ok(println!(rt; "no room for the replies")?),
-    }
+    load(rt, &mut pile, firmware::BEYOND)?;
+    let mut exchanges = script::exchanges(rt.alloc()).context("no room for the calls")?;
+    perform(pile, &mut exchanges);
+    transcript::performed(rt, &exchanges)
 }
 
 fn main(rt: HostRuntime) -> anyhow::Result<()> {

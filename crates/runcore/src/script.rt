@@ -1,11 +1,11 @@
 //! The calls that the program makes.
 
 use Call::{Clock, Ledger, Lines, Look, Register, Run, Snapshot};
-use r3000::call::Call;
+use r3000::call::{Call, Exchange};
 use std::alloc::{AllocError, Global};
 
 /// Start, an interrupt that comes and goes, a reset, what the core shows of itself, and calls that it denies.
-const SCRIPT: [Call; 21] = [
+const SCRIPT: [Call; 22] = [
     Clock,
     Clock,
     Clock,
@@ -17,6 +17,7 @@ const SCRIPT: [Call; 21] = [
     Run(54),
     Look(0x8000_0100),
     Look(0x8000_0104),
+    Register(3),
     Lines(0x40),
     Run(9),
     Register(36),
@@ -30,9 +31,10 @@ const SCRIPT: [Call; 21] = [
 ];
 
 /// The script with a snapshot before it and after each of its calls, and the whole ledger at the end.
-pub(crate) fn calls(heap: Global) -> Result<Vec<Call>, AllocError> {
-    let mut calls = vec![in heap; Snapshot]?;
-    calls.extend(SCRIPT.into_iter().flat_map(|call| [call, Snapshot]))?;
-    calls.extend((0..16).map(Ledger))?;
-    Ok(calls)
+pub(crate) fn exchanges(heap: Global) -> Result<Vec<Exchange>, AllocError> {
+    let mut exchanges = vec![in heap; Exchange::new(Snapshot)]?;
+    let script = SCRIPT.into_iter().flat_map(|call| [call, Snapshot]);
+    exchanges.extend(script.map(Exchange::new))?;
+    exchanges.extend((0..16).map(Ledger).map(Exchange::new))?;
+    Ok(exchanges)
 }

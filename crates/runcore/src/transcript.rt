@@ -1,38 +1,96 @@
 //! The program's output.
 
+ghost use Rattle.std.specs.Prelude.{Some};
+
+use anyhow::Context;
 use bus::settle::Settled;
 use microprogram::ledger::Entry;
-use r3000::call::{Call, Reply};
+use r3000::call::{Call, Exchange, Reply};
 use r3000::denial::Denial;
 use r3000::report::Report;
 use std::fmt;
 
-/// The registers 32 to 41.
-const SPECIAL: [&'static str; 10] = ["PC", "HI", "LO", "SR", "CR", "EPC", "BAR", "AD", "IR", "DT"];
+/// A byte as it is printed.
+#[derive(Clone, Copy)]
+struct Byte(u8);
+
+impl fmt::Display for Byte {
+    ghost use Rattle.runcore.specs.Transcript.{byte};
+
+    ghost output = { λ b. Some (byte b.0) };
+
+    fn fmt<W: fmt::Write>(&self, f: &mut fmt::Formatter<W>) -> fmt::Result {
+        write!(f, "{:02X}", self.0)
+    }
+}
+
+/// A word, or an address, as it is printed.
+#[derive(Clone, Copy)]
+struct Word(u32);
+
+impl fmt::Display for Word {
+    ghost use Rattle.runcore.specs.Transcript.{word};
+
+    ghost output = { λ w. Some (word w.0) };
+
+    fn fmt<W: fmt::Write>(&self, f: &mut fmt::Formatter<W>) -> fmt::Result {
+        write!(f, "{:08X}", self.0)
+    }
+}
+
+/// A word that was put into the pile, as it is printed.
+#[derive(Clone, Copy)]
+pub(crate) struct Loaded {
+    pub(crate) address: u32,
+    pub(crate) word: u32,
+    pub(crate) settled: Settled,
+}
+
+impl fmt::Display for Loaded {
+    ghost use Rattle.runcore.specs.Transcript.{loaded};
+
+    ghost output = { λ l. Some (loaded l) };
+
+    fn fmt<W: fmt::Write>(&self, f: &mut fmt::Formatter<W>) -> fmt::Result {
+        let (address, word, waits) = (Word(self.address), Word(self.word), self.settled.waits);
+        match self.settled.outcome {
+            Ok(_) => write!(f, "load {address} {word}: waits {waits}"),
+            Err(_) => write!(f, "load {address} {word}: refused"),
+        }
+    }
+}
 
 /// A call as it is printed.
-#[derive(Drop)]
+#[derive(Clone, Copy)]
 struct Asked(Call);
 
 impl fmt::Display for Asked {
+    ghost use Rattle.runcore.specs.Transcript.{asked};
+
+    ghost output = { λ a. Some (asked a.0) };
+
     fn fmt<W: fmt::Write>(&self, f: &mut fmt::Formatter<W>) -> fmt::Result {
         match self.0 {
-            Call::Clock => write!(f, "clock"),
+            Call::Clock => f.write_str("clock"),
             Call::Run(count) => write!(f, "run {count}"),
-            Call::Lines(lines) => write!(f, "lines {lines:02X}"),
+            Call::Lines(lines) => write!(f, "lines {}", Byte(lines)),
             Call::Register(number) => write!(f, "register {number}"),
-            Call::Snapshot => write!(f, "snapshot"),
+            Call::Snapshot => f.write_str("snapshot"),
             Call::Ledger(code) => write!(f, "ledger {code}"),
-            Call::Look(address) => write!(f, "look {address:08X}"),
+            Call::Look(address) => write!(f, "look {}", Word(address)),
         }
     }
 }
 
 /// A report as it is printed.
-#[derive(Drop)]
+#[derive(Clone, Copy)]
 struct Counted(Report);
 
 impl fmt::Display for Counted {
+    ghost use Rattle.runcore.specs.Transcript.{counted};
+
+    ghost output = { λ c. Some (counted c.0) };
+
     fn fmt<W: fmt::Write>(&self, f: &mut fmt::Formatter<W>) -> fmt::Result {
         let Report {
             cycles,
@@ -48,85 +106,115 @@ impl fmt::Display for Counted {
 }
 
 /// A reply as it is printed; a snapshot shows in what changed.
-#[derive(Drop)]
+#[derive(Clone, Copy)]
 struct Answered(Result<Reply, Denial>);
 
 impl fmt::Display for Answered {
+    ghost use Rattle.runcore.specs.Transcript.{answered};
+
+    ghost output = { λ a. Some (answered a.0) };
+
     fn fmt<W: fmt::Write>(&self, f: &mut fmt::Formatter<W>) -> fmt::Result {
         match self.0 {
-            Ok(Reply::Clock(clocked)) => {
-                let frozen = if clocked.frozen {
-                    "frozen"
-                } else {
-                    "not frozen"
-                };
-                write!(f, "{frozen}; {}", Counted(clocked.report))
+            Ok(Reply::Clock(clocked)) if clocked.frozen => {
+                write!(f, "frozen; {}", Counted(clocked.report))
             }
+            Ok(Reply::Clock(clocked)) => write!(f, "not frozen; {}", Counted(clocked.report)),
             Ok(Reply::Run(report)) => write!(f, "{}", Counted(report)),
-            Ok(Reply::Lines) => write!(f, "set"),
-            Ok(Reply::Register(word)) => write!(f, "{word:08X}"),
-            Ok(Reply::Snapshot(_)) => write!(f, "taken"),
+            Ok(Reply::Lines) => f.write_str("set"),
+            Ok(Reply::Register(word)) => write!(f, "{}", Word(word)),
+            Ok(Reply::Snapshot(_)) => f.write_str("taken"),
             Ok(Reply::Ledger(Entry { count, epc })) => {
-                write!(f, "count {count}, last EPC {epc:08X}")
+                write!(f, "count {count}, last EPC {}", Word(epc))
             }
-            Ok(Reply::Look(byte)) => write!(f, "{byte:02X}"),
+            Ok(Reply::Look(byte)) => write!(f, "{}", Byte(byte)),
             Err(denial) => write!(f, "denied {}", denial.number()),
         }
     }
 }
 
-/// A word of the firmware that was put into the pile.
-pub(crate) fn loaded(
-    rt: &impl Print,
-    address: u32,
-    word: u32,
-    settled: Settled,
-) -> anyhow::Result<()> {
-    let waits = settled.waits;
-    match settled.outcome {
-        Ok(_) => println!(rt; "load {address:08X} {word:08X}: waits {waits}")?,
-        Err(_) => println!(rt; "load {address:08X} {word:08X}: refused")?,
-    }
-    Ok(())
+/// A call and its reply, as they are printed.
+#[derive(Clone, Copy)]
+struct Made {
+    call: Call,
+    reply: Result<Reply, Denial>,
 }
 
-/// A register's name: the general ones have numbers.
-#[derive(Drop)]
+impl fmt::Display for Made {
+    ghost use Rattle.runcore.specs.Transcript.{made};
+
+    ghost output = { λ m. Some (made m) };
+
+    fn fmt<W: fmt::Write>(&self, f: &mut fmt::Formatter<W>) -> fmt::Result {
+        write!(f, "{}: {}", Asked(self.call), Answered(self.reply))
+    }
+}
+
+/// A register's name; a general one is called by its number.
+#[derive(Clone, Copy)]
 struct Name(usize);
 
 impl fmt::Display for Name {
+    ghost use Rattle.runcore.specs.Transcript.{named};
+
+    ghost output = { λ n. Some (named n.0) };
+
     fn fmt<W: fmt::Write>(&self, f: &mut fmt::Formatter<W>) -> fmt::Result {
-        let number = self.0;
-        match SPECIAL.get(number.wrapping_sub(32)) {
-            Some(name) => f.write_str(name),
-            None => write!(f, "${number}"),
+        match self.0 {
+            32 => f.write_str("PC"),
+            33 => f.write_str("HI"),
+            34 => f.write_str("LO"),
+            35 => f.write_str("SR"),
+            36 => f.write_str("CR"),
+            37 => f.write_str("EPC"),
+            38 => f.write_str("BAR"),
+            39 => f.write_str("AD"),
+            40 => f.write_str("IR"),
+            41 => f.write_str("DT"),
+            general => write!(f, "${general}"),
         }
     }
 }
 
+/// A register that a call changed, and its new word, as they are printed.
+#[derive(Clone, Copy)]
+struct Changed {
+    register: usize,
+    word: u32,
+}
+
+impl fmt::Display for Changed {
+    ghost use Rattle.runcore.specs.Transcript.{changed};
+
+    ghost output = { λ c. Some (changed c) };
+
+    fn fmt<W: fmt::Write>(&self, f: &mut fmt::Formatter<W>) -> fmt::Result {
+        write!(f, "    {} = {}", Name(self.register), Word(self.word))
+    }
+}
+
 /// The registers that differ between two snapshots.
-fn changed(rt: &impl Print, before: &[u32; 42], after: &[u32; 42]) -> anyhow::Result<()> {
-    for (number, (old, new)) in before.iter().zip(after).enumerate() {
+fn compare(rt: &impl Print, before: &[u32; 42], after: &[u32; 42]) -> anyhow::Result<()> {
+    for (register, (old, new)) in before.iter().zip(after).enumerate() {
         if old != new {
-            println!(rt; "    {} = {new:08X}", Name(number))?;
+            let word = *new;
+            println!(rt; "{}", Changed { register, word })?;
         }
     }
     Ok(())
 }
 
 /// Every call with its reply, and the registers that it changed.
-pub(crate) fn performed(
-    rt: &impl Print,
-    calls: &[Call],
-    replies: &[Result<Reply, Denial>],
-) -> anyhow::Result<()> {
+pub(crate) fn performed(rt: &impl Print, exchanges: &[Exchange]) -> anyhow::Result<()> {
     let mut before = [0; 42];
-    for (call, reply) in calls.iter().zip(replies) {
-        if let Ok(Reply::Snapshot(after)) = *reply {
-            changed(rt, &before, &after)?;
+    for exchange in exchanges {
+        let call = exchange.call;
+        let reply = exchange.reply.context("a call was not made")?;
+        if let Ok(Reply::Snapshot(after)) = reply {
+            compare(rt, &before, &after)?;
             before = after;
         } else {
-            println!(rt; "{}: {}", Asked(*call), Answered(*reply))?;
+            println!(rt; "{}", Made { call, reply })?;
         }
     }
     Ok(())
