@@ -1,5 +1,5 @@
 -- Reading what was written. Assumes nothing.
-use Rattle.std.proofs.Common.{◌≡◌, ℕ, zero, suc, ◌+◌, ◌*◌, ◌/◌, ◌%◌, ◌^◌, ◌<◌, false, eqb, List, [], ◌∷◌, ◌++◌, map, length, Some, sym, refl, ap, ◌∙◌, ap₂, mod-eq_of_lt, arith}
+use Rattle.std.proofs.Common.{◌≡◌, ℕ, zero, suc, ◌+◌, ◌*◌, ◌/◌, ◌%◌, ◌^◌, ◌<◌, false, eqb, List, [], ◌∷◌, ◌++◌, map, Some, sym, refl, ap, ◌∙◌, ap₂, mod-eq_of_lt, arith}
 use native.Mathlib.Nat.{pow-succ'}
 use Rattle.std.proofs.Math.Nat.{one-le-pow}
 use Rattle.std.proofs.lemmas.Bool.Decides.{nat_tests}
@@ -7,6 +7,7 @@ use lib.Arith.{mod-mul}
 use Rattle.std.proofs.lemmas.List.Elements.{All-cons}
 use Rattle.std.proofs.lemmas.List.Splits.{slice_split_at, slice_split_none}
 use Rattle.std.specs.List.{All}
+use Rattle.lines.proofs.Parted.{digits-length}
 use Rattle.lines.specs.Digit.{byte_of}
 use Rattle.lines.specs.Line.{digit, fields_of, value_of}
 use Rattle.lines.specs.Reread.{RoundTrip, reread_fields}
@@ -20,14 +21,10 @@ no_space d = grind (arith, nat_tests)
 digit_back : (d : ℕ) → d < 16 → digit (byte_of d) ≡ d
 digit_back d h = grind (arith, nat_tests)
 
-long : (n v : ℕ) → length (digits n v) ≡ n
-long zero v = refl
-long (suc n) v = ap suc (long n v)
-
 value_back : (n v : ℕ) → value_of (digits n v) ≡ v % 16 ^ n
 value_back zero v = omega arith
 value_back (suc n) v =
-    ap₂ (λ d k. d * 16 ^ k + value_of (digits n v)) (digit_back (v / 16 ^ n % 16) (omega arith)) (long n v)
+    ap₂ (λ d k. d * 16 ^ k + value_of (digits n v)) (digit_back (v / 16 ^ n % 16) (omega arith)) (digits-length n v)
     ∙ ap (λ x. v / 16 ^ n % 16 * 16 ^ n + x) (value_back n v)
     ∙ sym (ap (λ k. v % k) (pow-succ' 16 n) ∙ mod-mul v {m = 16} {c = 16 ^ n} (omega arith) (one-le-pow n 16 (omega arith)))
 

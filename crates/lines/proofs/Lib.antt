@@ -1,4 +1,4 @@
 mod Back
 mod Fields
-mod Hexadecimal
 mod Numbers
+mod Parted

@@ -3,6 +3,7 @@ use Rattle.std.specs.Prelude.{ℕ, ◌+◌, ◌*◌, ◌^◌, Bool, true, false,
 use Rattle.std.specs.List.{list_all, slice_split}
 use Rattle.std.specs.Option.{unwrap_or}
 use Rattle.lines.specs.Digit.{digit_of}
+use Rattle.lines.specs.Form.{byte_width, code_of, code_width, run_width, space, word_width}
 use Rattle.lines.specs.declared.fault.JobFault.{JobFault}
 use Rattle.lines.specs.declared.fault.JobFault.TheVariants as fault
 use Rattle.lines.specs.declared.order.Kind.{Kind}
@@ -12,7 +13,7 @@ use Rattle.lines.specs.declared.order.Order.TheVariants as order
 
 -- a line's fields: single spaces part them; two spaces in a row, or one at an end of the line, leave an empty field
 abbrev pub fields_of : List ℕ → List (List ℕ)
-fields_of line = slice_split (λ b. b == 32) line
+fields_of line = slice_split (λ b. b == space) line
 
 -- whether a byte is a digit
 abbrev pub is_digit : ℕ → Bool
@@ -31,22 +32,24 @@ abbrev pub value_of : List ℕ → ℕ
 value_of [] = 0
 value_of (b ∷ bs) = digit b * 16 ^ length bs + value_of bs
 
--- the kinds, by their two digits
+-- the kinds, by their codes
 abbrev pub kind_at : ℕ → Option Kind
 kind_at v =
-    cond (v == 0x10) (Some kind.Load) (cond (v == 0x20) (Some kind.Start) (cond (v == 0x30) (Some kind.Lines) (cond (v == 0x40) (Some kind.Run) (cond (v == 0x50) (Some kind.Show) None))))
+    cond (v == code_of kind.Load) (Some kind.Load) (cond (v == code_of kind.Start) (Some kind.Start)
+    (cond (v == code_of kind.Lines) (Some kind.Lines) (cond (v == code_of kind.Run) (Some kind.Run)
+    (cond (v == code_of kind.Show) (Some kind.Show) None))))
 
 -- a first field of any other width is no kind
 abbrev pub kind_of : List ℕ → Option Kind
-kind_of f = cond (length f == 2) (kind_at (value_of f)) None
+kind_of f = cond (length f == code_width) (kind_at (value_of f)) None
 
--- the widths of the other fields: an address and a word; none; the lines; a count; a register
+-- the widths of the other fields: an address and a word; none; the lines; a count of cycles; a register
 abbrev pub widths : Kind → List ℕ
-widths kind.Load = 8 ∷ 8 ∷ []
+widths kind.Load = word_width ∷ word_width ∷ []
 widths kind.Start = []
-widths kind.Lines = 2 ∷ []
-widths kind.Run = 4 ∷ []
-widths kind.Show = 2 ∷ []
+widths kind.Lines = byte_width ∷ []
+widths kind.Run = run_width ∷ []
+widths kind.Show = byte_width ∷ []
 
 -- fields right in count and width
 abbrev pub fits : List ℕ → List (List ℕ) → Bool

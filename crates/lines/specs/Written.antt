@@ -1,8 +1,10 @@
 -- The bytes of a reply. Assumes nothing.
 use Rattle.std.specs.Prelude.{ℕ, zero, suc, ◌/◌, ◌%◌, ◌^◌, List, [], ◌∷◌, ◌++◌}
 use Rattle.lines.specs.Digit.{byte_of}
+use Rattle.lines.specs.Form.{byte_width, code_of, code_width, count_width, denied, end, space, word_width}
 use Rattle.lines.specs.declared.reply.Counts.{Counts}
-use Rattle.lines.specs.declared.reply.Denied as denied
+use Rattle.lines.specs.declared.order.Kind.TheVariants as kind
+use Rattle.lines.specs.declared.reply.Denied as denial
 use Rattle.lines.specs.declared.reply.Reply.{Reply}
 use Rattle.lines.specs.declared.reply.Reply.TheVariants.{Loaded, Started, Set, Ran, Shown, Denied}
 
@@ -17,27 +19,31 @@ Field = ℕ × ℕ
 
 -- the fields that tell counts
 abbrev pub fields_of_counts : Counts → List Field
-fields_of_counts n = (16, n.cycles) ∷ (16, n.frozen) ∷ (16, n.boundaries) ∷ []
+fields_of_counts n = (count_width, n.cycles) ∷ (count_width, n.frozen) ∷ (count_width, n.boundaries) ∷ []
 
 -- the fields that tell a denial
-abbrev pub fields_of_denial : denied.Denied → List Field
-fields_of_denial d = (2, d.number) ∷ (8, d.line) ∷ (8, d.address) ∷ []
+abbrev pub fields_of_denial : denial.Denied → List Field
+fields_of_denial d = (byte_width, d.number) ∷ (word_width, d.line) ∷ (word_width, d.address) ∷ []
 
--- the fields of a reply: its kind, and what it tells; FF is a denial
+-- a field that tells a code
+abbrev pub coded : ℕ → Field
+coded code = (code_width, code)
+
+-- the fields of a reply: its code, and what it tells
 abbrev pub fields_in : Reply → List Field
-fields_in Loaded = (2, 0x10) ∷ []
-fields_in Started = (2, 0x20) ∷ []
-fields_in Set = (2, 0x30) ∷ []
-fields_in (Ran n) = (2, 0x40) ∷ fields_of_counts n
-fields_in (Shown r w) = (2, 0x50) ∷ (2, r) ∷ (8, w) ∷ []
-fields_in (Denied d) = (2, 0xFF) ∷ fields_of_denial d
+fields_in Loaded = coded (code_of kind.Load) ∷ []
+fields_in Started = coded (code_of kind.Start) ∷ []
+fields_in Set = coded (code_of kind.Lines) ∷ []
+fields_in (Ran n) = coded (code_of kind.Run) ∷ fields_of_counts n
+fields_in (Shown r w) = coded (code_of kind.Show) ∷ (byte_width, r) ∷ (word_width, w) ∷ []
+fields_in (Denied d) = coded denied ∷ fields_of_denial d
 
 -- fields parted by single spaces
 abbrev pub parted : List Field → List ℕ
 parted [] = []
 parted (f ∷ []) = digits f.0 f.1
-parted (f ∷ (g ∷ fs)) = digits f.0 f.1 ++ 32 ∷ parted (g ∷ fs)
+parted (f ∷ (g ∷ fs)) = digits f.0 f.1 ++ space ∷ parted (g ∷ fs)
 
--- a reply ends with byte 0A
+-- the bytes of a reply, of which the last ends it
 abbrev pub written : Reply → List ℕ
-written r = parted (fields_in r) ++ 10 ∷ []
+written r = parted (fields_in r) ++ end ∷ []

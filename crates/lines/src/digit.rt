@@ -14,11 +14,11 @@ pub fn value(byte: u8) -> Option<u8>
     }
 }
 
-/// The digit of a value, of which the four low bits count: what `value` reads. Replies are written by the library.
-pub fn byte(value: u8) -> u8
+/// The digit of a value, of which the four low bits count: what `value` reads.
+pub fn byte(value: u64) -> u8
     ensures { result ≡ byte_of (value % 16) }
 {
-    let value = value % 16;
+    let value = (value % 16) as u8;
     if value < 10 {
         b'0' + value
     } else {

@@ -8,6 +8,7 @@ ghost use Rattle.lines.specs.declared.fault.JobFault.TheVariants.{Form, Unknown}
 
 use super::digit;
 use super::fault::JobFault;
+use super::form::{BYTE_WIDTH, CODE_WIDTH, RUN_WIDTH, SPACE, WORD_WIDTH};
 use super::order::{Kind, Order};
 
 /// Whether a field is digits, at least one.
@@ -36,7 +37,7 @@ fn number<const WIDTH: usize>(field: &[u8]) -> Option<u32>
 fn kind(field: &[u8]) -> Result<Kind, JobFault>
     ensures { result ≡ ok_or (kind_of field.now) Unknown }
 {
-    let code = number::<2>(field).ok_or(JobFault::Unknown)?;
+    let code = number::<CODE_WIDTH>(field).ok_or(JobFault::Unknown)?;
     Kind::try_from(code as u8)
 }
 
@@ -46,12 +47,16 @@ fn order(kind: Kind, others: [Option<&[u8]>; 3]) -> Option<Order>
 {
     match (kind, others) {
         (Kind::Load, [Some(address), Some(word), None]) => {
-            Some(Order::Load(number::<8>(address)?, number::<8>(word)?))
+            Some(Order::Load(number::<WORD_WIDTH>(address)?, number::<WORD_WIDTH>(word)?))
         }
         (Kind::Start, [None, ..]) => Some(Order::Start),
-        (Kind::Lines, [Some(lines), None, _]) => Some(Order::Lines(number::<2>(lines)? as u8)),
-        (Kind::Run, [Some(count), None, _]) => Some(Order::Run(number::<4>(count)? as u16)),
-        (Kind::Show, [Some(register), None, _]) => Some(Order::Show(number::<2>(register)? as u8)),
+        (Kind::Lines, [Some(lines), None, _]) => Some(Order::Lines(
+            number::<BYTE_WIDTH>(lines)? as u8,
+        )),
+        (Kind::Run, [Some(count), None, _]) => Some(Order::Run(number::<RUN_WIDTH>(count)? as u16)),
+        (Kind::Show, [Some(register), None, _]) => Some(Order::Show(
+            number::<BYTE_WIDTH>(register)? as u8,
+        )),
         _ => None,
     }
 }
@@ -60,7 +65,7 @@ fn order(kind: Kind, others: [Option<&[u8]>; 3]) -> Option<Order>
 fn first_fields(line: &[u8]) -> (&[u8], [Option<&[u8]>; 3])
     ensures { result.0.now ∷ map (λ field. field.now) (some_prefix result.1) ≡ take 4 (fields_of line.now) }
 {
-    let mut fields = line.split(|byte| *byte == b' ');
+    let mut fields = line.split(|byte| *byte == SPACE);
     let first = fields.next().unwrap();
     (first, [fields.next(), fields.next(), fields.next()])
 }
@@ -69,7 +74,7 @@ fn first_fields(line: &[u8]) -> (&[u8], [Option<&[u8]>; 3])
 fn is_formed(line: &[u8]) -> bool
     ensures { result ≡ list_all in_form (fields_of line.now) }
 {
-    line.split(|byte| *byte == b' ').all(is_in_form)
+    line.split(|byte| *byte == SPACE).all(is_in_form)
 }
 
 /// What a line means, or its first denial.

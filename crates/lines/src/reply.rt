@@ -1,9 +1,8 @@
 //! What a line is answered.
 
-ghost use Rattle.std.specs.Prelude.{◌≡◌, Some};
+ghost use Rattle.std.specs.Prelude.{◌≡◌};
 
 use r3000::report::Report;
-use std::fmt;
 
 /// The counts that a run reports.
 #[derive(Clone, Copy)]
@@ -44,52 +43,4 @@ pub enum Reply {
     /// A register's number and its word.
     Shown(u8, u32),
     Denied(Denied),
-}
-
-impl fmt::Display for Counts {
-    ghost use Rattle.lines.specs.Written.{fields_of_counts, parted};
-
-    ghost output = { λ n. Some (parted (fields_of_counts n)) };
-
-    fn fmt<W: fmt::Write>(&self, f: &mut fmt::Formatter<W>) -> fmt::Result {
-        let Counts {
-            cycles,
-            frozen,
-            boundaries,
-        } = *self;
-        write!(f, "{cycles:016X} {frozen:016X} {boundaries:016X}")
-    }
-}
-
-impl fmt::Display for Denied {
-    ghost use Rattle.lines.specs.Written.{fields_of_denial, parted};
-
-    ghost output = { λ d. Some (parted (fields_of_denial d)) };
-
-    fn fmt<W: fmt::Write>(&self, f: &mut fmt::Formatter<W>) -> fmt::Result {
-        let Denied {
-            number,
-            line,
-            address,
-        } = *self;
-        write!(f, "{number:02X} {line:08X} {address:08X}")
-    }
-}
-
-/// The codes of the lines, and FF: as text, since that is the format.
-impl fmt::Display for Reply {
-    ghost use Rattle.lines.specs.Written.{fields_in, parted};
-
-    ghost output = { λ r. Some (parted (fields_in r)) };
-
-    fn fmt<W: fmt::Write>(&self, f: &mut fmt::Formatter<W>) -> fmt::Result {
-        match *self {
-            Reply::Loaded => f.write_str("10"),
-            Reply::Started => f.write_str("20"),
-            Reply::Set => f.write_str("30"),
-            Reply::Ran(counts) => write!(f, "40 {counts}"),
-            Reply::Shown(register, word) => write!(f, "50 {register:02X} {word:08X}"),
-            Reply::Denied(denied) => write!(f, "FF {denied}"),
-        }
-    }
 }
