@@ -2,12 +2,12 @@ mod Arrive
 mod Branches
 mod Decode
 mod Entries
-pub mod Fits
+mod Fits
 mod Jumps
 mod Loads
-pub mod Longest
-pub mod Steps
-pub mod Still
+mod Longest
+mod Steps
+mod Still
 mod Stores
 mod Straight
 mod System

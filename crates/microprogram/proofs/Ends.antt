@@ -4,11 +4,11 @@ use Rattle.std.proofs.lemmas.Bool.{cases_eq}
 use Rattle.microprogram.specs.Bounds.{RowsEnd, ending, sound, sound_below}
 use Rattle.rows.specs.Rows.{rows}
 
-pub left : (a b : Bool) → T (a && b) → T a
+left : (a b : Bool) → T (a && b) → T a
 left true b h = tt
 left false b h = h
 
-pub right : (a b : Bool) → T (a && b) → T b
+right : (a b : Bool) → T (a && b) → T b
 right true b h = h
 right false b h = absurd h
 

@@ -1,2 +1,2 @@
-pub mod Ends
-pub mod Successors
+mod Ends
+mod Successors
