@@ -9,100 +9,94 @@ use Rattle.jobs.specs.Job.{Gives, Heeds, Standing, lines_of}
 use Rattle.jobs.specs.Station.{Goes, IsPromised, IsReached, Stage, stage}
 use Rattle.jobs.specs.declared.job.Job.{Job}
 use Rattle.jobs.specs.declared.station.Station.{Station}
-use Rattle.jobs.specs.declared.station.Station.TheVariants.{Loading, Running}
 use Rattle.jobs.proofs.Decided.{heeds, shown}
 use Rattle.jobs.proofs.Promised.{promised}
 use Rattle.lines.specs.Line.{read_line}
 use Rattle.lines.specs.declared.reply.Reply.{Reply}
 use Rattle.r3000.specs.Machine.{History, fresh}
 use Rattle.r3000.specs.Promise.{Kept}
-use Rattle.r3000.specs.declared.cpu.Core.{Core}
+use Rattle.r3000.specs.declared.processor.Processor.{Processor}
 
 -- where no line is left of the bytes, none is left of the job
-pub none_left : {B : Type 0} (o : Option (Station B (Core B))) (bytes : List ℕ) → lines_of bytes ≡ [] → left_of o bytes ≡ []
-none_left (Some st) bytes e = e
+pub none_left : {B : Type 0} (o : Option B) (bytes : List ℕ) → lines_of bytes ≡ [] → left_of o bytes ≡ []
+none_left (Some pile) bytes e = e
 none_left None bytes e = refl
-
--- some pile that a station holds
-pile_in : {B : Type 0} → Station B (Core B) → B
-pile_in (Loading pile) = pile
-pile_in (Running core) = core.pile
 
 module _ {B : Type 0} {means : B → Meaning} {steps : B → Request → Answer → B → Type 0} (keeps : Keeps means steps) (kept : (start : B) → Kept means steps start) where
   -- a station is seen as its stage is shown, whatever is behind it
-  sight_same : (s : B) (h : History) (st : Station B (Core B)) → shown means (stage s h st) ≡ sight_of means st
-  sight_same s h (Loading pile) = refl
-  sight_same s h (Running core) = refl
+  sight_same : (s : B) (h : History) (pile : B) (o : Option Processor) → shown means (stage s h (record { pile = pile; processor = o })) ≡ sight_of means pile o
+  sight_same s h pile None = refl
+  sight_same s h pile (Some processor) = refl
 
   -- a stage that stays keeps the promise
   stays : (e f : Stage B) → f ≡ e → IsReached means steps e → IsPromised means steps f
   stays e f same r = promised kept f (subst (IsReached means steps) (sym same) r)
 
   -- a reply that was due
-  pub gives_due : (x y : Job B) (d : Reply) → x.due ≡ Some d → y.due ≡ None → y.station ≡ x.station → y.number ≡ x.number → y.lines ≡ x.lines → NextGives means steps x (Some d) y
-  gives_due x y d was now station number lines =
+  pub gives_due : (x y : Job B) (d : Reply) → x.due ≡ Some d → y.due ≡ None → y.pile ≡ x.pile → y.processor ≡ x.processor → y.number ≡ x.number → y.lines ≡ x.lines → NextGives means steps x (Some d) y
+  gives_due x y d was now station chip number lines =
       record {
         turns = λ s h.
-            let before : Standing B = record { due = d ∷ []; stage = stage_of s h x.station; number = x.number; left = left_of x.station x.lines.0.now } in
-            let after : Standing B = record { due = []; stage = stage_of s h x.station; number = x.number; left = left_of x.station x.lines.0.now } in
-            let seen : standing s h x ≡ before = λ i. record { due = option_to_list (was i); stage = stage_of s h x.station; number = x.number; left = left_of x.station x.lines.0.now } in
-            let left : standing s h y ≡ after = λ i. record { due = option_to_list (now i); stage = stage_of s h (station i); number = number i; left = left_of (station i) (lines i).0.now } in
+            let before : Standing B = record { due = d ∷ []; stage = stage_of s h x.pile x.processor; number = x.number; left = left_of x.pile x.lines.0.now } in
+            let after : Standing B = record { due = []; stage = stage_of s h x.pile x.processor; number = x.number; left = left_of x.pile x.lines.0.now } in
+            let seen : standing s h x ≡ before = λ i. record { due = option_to_list (was i); stage = stage_of s h x.pile x.processor; number = x.number; left = left_of x.pile x.lines.0.now } in
+            let left : standing s h y ≡ after = λ i. record { due = option_to_list (now i); stage = stage_of s h (station i) (chip i); number = number i; left = left_of (station i) (lines i).0.now } in
             record {
               pile = s;
               history = h;
               gives = subst₂ (λ u v. Gives means steps u (Some d) v) (sym seen) (sym left) (refl, refl);
-              promise = stays (stage_of s h x.station) (stage_of s h y.station) (ap (stage_of s h) station);
+              promise = stays (stage_of s h x.pile x.processor) (stage_of s h y.pile y.processor) (λ i. stage_of s h (station i) (chip i));
               leaves = λ r. subst₂ (λ u v. Leaves means steps u (Some d) v) (sym seen) (sym left) (λ rs h. (h.0, h.1, ap (λ qs. d ∷ qs) h.2, h.3));
             };
         exact = λ next decided.
-            (λ i. option_to_list (was i) ++ rest next x.station x.number x.lines.0.now)
-            ∙ sym (λ i. d ∷ (option_to_list (now i) ++ rest next (station i) (number i) (lines i).0.now));
+            (λ i. option_to_list (was i) ++ rest next x.pile x.processor x.number x.lines.0.now)
+            ∙ sym (λ i. d ∷ (option_to_list (now i) ++ rest next (station i) (chip i) (number i) (lines i).0.now));
       }
     where
-      rest : (Meaning → Request → Meaning) → Option (Station B (Core B)) → ℕ → List ℕ → List Reply
-      rest next o n bytes = elim o [ Some st ↦ replies next (sight_of means st) n (lines_of bytes) | None ↦ [] ]
+      rest : (Meaning → Request → Meaning) → Option B → Option Processor → ℕ → List ℕ → List Reply
+      rest next o p n bytes = elim o [ Some pile ↦ replies next (sight_of means pile p) n (lines_of bytes) | None ↦ [] ]
 
   -- no reply
-  pub gives_none : (x y : Job B) (r : Option Reply) → r ≡ None → x.due ≡ None → y.due ≡ None → y.station ≡ x.station → y.number ≡ x.number → left_of x.station x.lines.0.now ≡ [] → left_of y.station y.lines.0.now ≡ [] → NextGives means steps x r y
-  gives_none x y r none_given was now station number none still =
+  pub gives_none : (x y : Job B) (r : Option Reply) → r ≡ None → x.due ≡ None → y.due ≡ None → y.pile ≡ x.pile → y.processor ≡ x.processor → y.number ≡ x.number → left_of x.pile x.lines.0.now ≡ [] → left_of y.pile y.lines.0.now ≡ [] → NextGives means steps x r y
+  gives_none x y r none_given was now station chip number none still =
       subst (λ q. NextGives means steps x q y) (sym none_given)
       (record {
         turns = λ s h.
-            let end : Standing B = record { due = []; stage = stage_of s h x.station; number = x.number; left = [] } in
-            let seen : standing s h x ≡ end = λ i. record { due = option_to_list (was i); stage = stage_of s h x.station; number = x.number; left = none i } in
-            let left : standing s h y ≡ end = λ i. record { due = option_to_list (now i); stage = stage_of s h (station i); number = number i; left = still i } in
+            let end : Standing B = record { due = []; stage = stage_of s h x.pile x.processor; number = x.number; left = [] } in
+            let seen : standing s h x ≡ end = λ i. record { due = option_to_list (was i); stage = stage_of s h x.pile x.processor; number = x.number; left = none i } in
+            let left : standing s h y ≡ end = λ i. record { due = option_to_list (now i); stage = stage_of s h (station i) (chip i); number = number i; left = still i } in
             record {
               pile = s;
               history = h;
               gives = subst₂ (λ u v. Gives means steps u None v) (sym seen) (sym left) (refl, refl);
-              promise = stays (stage_of s h x.station) (stage_of s h y.station) (ap (stage_of s h) station);
+              promise = stays (stage_of s h x.pile x.processor) (stage_of s h y.pile y.processor) (λ i. stage_of s h (station i) (chip i));
               leaves = λ r. subst₂ (λ u v. Leaves means steps u None v) (sym seen) (sym left) ([], end.stage, refl, (refl, refl));
             };
         exact = λ next decided. (nothing next x was none, nothing next y now still);
       })
     where
-      rest : (next : Meaning → Request → Meaning) (o : Option (Station B (Core B))) (n : ℕ) (bytes : List ℕ) → left_of o bytes ≡ [] → ◌≡◌ {A = List Reply} (elim o [ Some st ↦ replies next (sight_of means st) n (lines_of bytes) | None ↦ [] ]) []
-      rest next (Some st) n bytes e = ap (replies next (sight_of means st) n) e
-      rest next None n bytes e = refl
+      rest : (next : Meaning → Request → Meaning) (o : Option B) (p : Option Processor) (n : ℕ) (bytes : List ℕ) → left_of o bytes ≡ [] → ◌≡◌ {A = List Reply} (elim o [ Some pile ↦ replies next (sight_of means pile p) n (lines_of bytes) | None ↦ [] ]) []
+      rest next (Some pile) p n bytes e = ap (replies next (sight_of means pile p) n) e
+      rest next None p n bytes e = refl
 
-      nothing : (next : Meaning → Request → Meaning) (z : Job B) → z.due ≡ None → left_of z.station z.lines.0.now ≡ [] → to_come means next z ≡ []
-      nothing next z due left = ap₂ (λ u v. option_to_list u ++ v) due (rest next z.station z.number z.lines.0.now left)
+      nothing : (next : Meaning → Request → Meaning) (z : Job B) → z.due ≡ None → left_of z.pile z.lines.0.now ≡ [] → to_come means next z ≡ []
+      nothing next z due left = ap₂ (λ u v. option_to_list u ++ v) due (rest next z.pile z.processor z.number z.lines.0.now left)
 
   -- a line that was done
-  pub gives_line : (x y : Job B) (st after : Station B (Core B)) (l : List ℕ) (r : Reply) → x.due ≡ None → x.station ≡ Some st → lines_of x.lines.0.now ≡ l ∷ lines_of y.lines.0.now
-      → y.due ≡ None → y.station ≡ Some after → y.number ≡ x.number + 1
-      → Goes means steps (λ e f. Heeds means steps e x.number (read_line l) (r ∷ []) f) st after → NextGives means steps x (Some r) y
-  gives_line x y st after l r was station lines now still number goes =
+  pub gives_line : (x y : Job B) (pile : B) (after : Station B) (l : List ℕ) (r : Reply) → x.due ≡ None → x.pile ≡ Some pile → lines_of x.lines.0.now ≡ l ∷ lines_of y.lines.0.now
+      → y.due ≡ None → y.pile ≡ Some after.pile → y.processor ≡ after.processor → y.number ≡ x.number + 1
+      → Goes means steps (λ e f. Heeds means steps e x.number (read_line l) (r ∷ []) f) (record { pile = pile; processor = x.processor }) after → NextGives means steps x (Some r) y
+  gives_line x y pile after l r was station lines now still chip number goes =
       record {
         turns = λ s h.
             let done = goes s h in
             let before : Standing B = record { due = []; stage = stage s h st; number = x.number; left = l ∷ lines_of y.lines.0.now } in
             let end : Standing B = record { due = []; stage = stage done.0 done.1 after; number = x.number + 1; left = lines_of y.lines.0.now } in
             let seen : standing s h x ≡ before =
-            (λ i. record { due = option_to_list (was i); stage = stage_of s h (station i); number = x.number; left = left_of (station i) x.lines.0.now })
+            (λ i. record { due = option_to_list (was i); stage = stage_of s h (station i) x.processor; number = x.number; left = left_of (station i) x.lines.0.now })
             ∙ (λ i. record { due = []; stage = stage s h st; number = x.number; left = lines i })
             in
-            let left : standing done.0 done.1 y ≡ end = λ i. record { due = option_to_list (now i); stage = stage_of done.0 done.1 (still i); number = number i; left = left_of (still i) y.lines.0.now } in
+            let left : standing done.0 done.1 y ≡ end = λ i. record { due = option_to_list (now i); stage = stage_of done.0 done.1 (still i) (chip i); number = number i; left = left_of (still i) y.lines.0.now } in
             record {
               pile = done.0;
               history = done.1;
@@ -112,13 +106,17 @@ module _ {B : Type 0} {means : B → Meaning} {steps : B → Request → Answer 
                   (λ reached rs h. (r ∷ h.0, h.1, ap (λ qs. r ∷ qs) h.2, (r ∷ [], h.0, stage done.0 done.1 after, refl, done.2, done.3 reached, h.3)));
             };
         exact = λ next decided.
-            let done = goes (pile_in st) fresh in
-            let turn = heeds next keeps decided (stage (pile_in st) fresh st) (stage done.0 done.1 after) x.number (read_line l) (r ∷ []) done.2 in
+            let done = goes pile fresh in
+            let turn = heeds next keeps decided (stage pile fresh st) (stage done.0 done.1 after) x.number (read_line l) (r ∷ []) done.2 in
             let at = λ (e : Sight). heeded next e x.number (read_line l) in
-            let told : r ∷ [] ≡ (at (sight_of means st)).reply = turn.0 ∙ ap (λ e. (at e).reply) (sight_same (pile_in st) fresh st) in
-            let then : sight_of means after ≡ (at (sight_of means st)).then = sym (sight_same done.0 done.1 after) ∙ turn.1 ∙ ap (λ e. (at e).then) (sight_same (pile_in st) fresh st) in
-            (λ i. option_to_list (was i) ++ elim (station i) [ Some z ↦ replies next (sight_of means z) x.number (lines_of x.lines.0.now) | None ↦ [] ])
-            ∙ ap (replies next (sight_of means st) x.number) lines
+            let here : Sight = sight_of means pile x.processor in
+            let told : r ∷ [] ≡ (at here).reply = turn.0 ∙ ap (λ e. (at e).reply) (sight_same pile fresh pile x.processor) in
+            let then : sight_of means after.pile after.processor ≡ (at here).then = sym (sight_same done.0 done.1 after.pile after.processor) ∙ turn.1 ∙ ap (λ e. (at e).then) (sight_same pile fresh pile x.processor) in
+            (λ i. option_to_list (was i) ++ elim (station i) [ Some z ↦ replies next (sight_of means z x.processor) x.number (lines_of x.lines.0.now) | None ↦ [] ])
+            ∙ ap (replies next here x.number) lines
             ∙ sym (ap₂ (λ u v. u ++ replies next v (x.number + 1) (lines_of y.lines.0.now)) told then)
-            ∙ sym (λ i. r ∷ (option_to_list (now i) ++ elim (still i) [ Some z ↦ replies next (sight_of means z) (number i) (lines_of y.lines.0.now) | None ↦ [] ]));
+            ∙ sym (λ i. r ∷ (option_to_list (now i) ++ elim (still i) [ Some z ↦ replies next (sight_of means z (chip i)) (number i) (lines_of y.lines.0.now) | None ↦ [] ]));
       }
+    where
+      st : Station B
+      st = record { pile = pile; processor = x.processor }

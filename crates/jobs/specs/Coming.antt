@@ -10,43 +10,41 @@ use Rattle.jobs.specs.Decided.{Sight, replies}
 use Rattle.jobs.specs.Job.{Gives, Standing, ToCome, lines_of}
 use Rattle.jobs.specs.Station.{IsPromised, IsReached, Stage, loading, stage}
 use Rattle.jobs.specs.declared.job.Job.{Job}
-use Rattle.jobs.specs.declared.station.Station.{Station}
-use Rattle.jobs.specs.declared.station.Station.TheVariants.{Loading, Running}
 use Rattle.lines.specs.declared.reply.Reply.{Reply}
-use Rattle.r3000.specs.Core.{machine}
+use Rattle.r3000.specs.Core.{made}
 use Rattle.r3000.specs.Machine.{History, Machine, fresh}
-use Rattle.r3000.specs.declared.cpu.Core.{Core}
+use Rattle.r3000.specs.declared.processor.Processor.{Processor}
 
 module _ {B : Type 0} where
-  -- the stage of a job; one without a station would be at its end, before a start
-  abbrev pub stage_of : B → History → Option (Station B (Core B)) → Stage B
-  stage_of s h (Some station) = stage s h station
-  stage_of s h None = loading s
+  -- the stage of a job; one without a pile would be at its end, before a start
+  abbrev pub stage_of : B → History → Option B → Option Processor → Stage B
+  stage_of s h (Some pile) processor = stage s h (record { pile = pile; processor = processor })
+  stage_of s h None processor = loading s
 
-  -- the lines that are left of a job's bytes; without a station none are
-  abbrev pub left_of : Option (Station B (Core B)) → List ℕ → List (List ℕ)
-  left_of (Some station) bytes = lines_of bytes
+  -- the lines that are left of a job's bytes; without a pile none are
+  abbrev pub left_of : Option B → List ℕ → List (List ℕ)
+  left_of (Some pile) bytes = lines_of bytes
   left_of None bytes = []
 
   -- where a job stands, on the pile of its start and with a history behind it
   abbrev pub standing : B → History → Job B → Standing B
   standing s h x =
-      record { due = option_to_list x.due; stage = stage_of s h x.station; number = x.number; left = left_of x.station x.lines.0.now }
+      record { due = option_to_list x.due; stage = stage_of s h x.pile x.processor; number = x.number; left = left_of x.pile x.lines.0.now }
 
   module _ (means : B → Meaning) where
     -- a core with what its memory means in the memory's place, and no history
     abbrev pub core_shown : Machine B → Machine Meaning
     core_shown c = record { state = c.state; lines = c.lines; report = c.report; pile = means c.pile; history = fresh }
 
-    -- a station, so
-    abbrev pub sight_of : Station B (Core B) → Sight
-    sight_of (Loading pile) = sight.loading (means pile)
-    sight_of (Running core) = sight.running (core_shown (machine fresh core))
+    -- a pile and its processor, so
+    abbrev pub sight_of : B → Option Processor → Sight
+    sight_of pile None = sight.loading (means pile)
+    sight_of pile (Some processor) = sight.running (core_shown (made fresh processor pile))
 
     -- on a decided memory the replies that are still to come of a job are these
     abbrev pub to_come : (Meaning → Request → Meaning) → Job B → List Reply
     to_come next x =
-        option_to_list x.due ++ elim x.station [ Some station ↦ replies next (sight_of station) x.number (lines_of x.lines.0.now) | None ↦ [] ]
+        option_to_list x.due ++ elim x.pile [ Some pile ↦ replies next (sight_of pile x.processor) x.number (lines_of x.lines.0.now) | None ↦ [] ]
 
     module _ (steps : B → Request → Answer → B → Type 0) where
       -- what a reply that was given leaves to come: whatever comes after it is, with it, what came before; and none is given

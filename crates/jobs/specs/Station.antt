@@ -1,5 +1,5 @@
 -- What each line does, before the start and after it. Assumes nothing.
-use Rattle.std.specs.Prelude.{◌≡◌, ℕ, Ok, Err, Result}
+use Rattle.std.specs.Prelude.{◌≡◌, ℕ, Some, None, Ok, Err, Result}
 use Rattle.bus.specs.Meaning.{Meaning}
 use Rattle.bus.specs.Request.{writing}
 use Rattle.bus.specs.Settled.{Settles}
@@ -16,13 +16,11 @@ use Rattle.lines.specs.declared.order.Order.TheVariants as order
 use Rattle.lines.specs.declared.reply.Reply.{Reply}
 use Rattle.lines.specs.declared.reply.Reply.TheVariants as reply
 use Rattle.jobs.specs.declared.station.Station.{Station}
-use Rattle.jobs.specs.declared.station.Station.TheVariants.{Loading, Running}
 use Rattle.r3000.specs.Calls.{Runs, lines_reply, lines_set, register_reply}
-use Rattle.r3000.specs.Core.{machine}
+use Rattle.r3000.specs.Core.{made}
 use Rattle.r3000.specs.Machine.{History, Machine, built}
 use Rattle.r3000.specs.Promise.{Promised, Upholds}
 use Rattle.r3000.specs.Reached.{Reached}
-use Rattle.r3000.specs.declared.cpu.Core.{Core}
 use Rattle.r3000.specs.declared.denial.Denial.{Denial}
 use Rattle.r3000.specs.declared.report.Report.{Report}
 
@@ -87,11 +85,10 @@ module _ {S : Type 0} (means : S → Meaning) (steps : S → Request → Answer 
   IsPromised (running s c) = Promised means steps s c
 
 -- the code's station, on the pile of its start and with a history behind it
-abbrev pub stage : {B : Type 0} → B → History → Station B (Core B) → Stage B
-stage s h (Loading pile) = loading pile
-stage s h (Running core) = running s (machine h core)
+abbrev pub stage : {B : Type 0} → B → History → Station B → Stage B
+stage s h x = elim x.processor [ Some processor ↦ running s (made h processor x.pile) | None ↦ loading x.pile ]
 
 -- whatever is behind a station, something happens to it, and that is then behind it too; and the promise is upheld
-abbrev pub Goes : {B : Type 0} → (B → Meaning) → (B → Request → Answer → B → Type 0) → (Stage B → Stage B → Type 0) → Station B (Core B) → Station B (Core B) → Type 0
+abbrev pub Goes : {B : Type 0} → (B → Meaning) → (B → Request → Answer → B → Type 0) → (Stage B → Stage B → Type 0) → Station B → Station B → Type 0
 Goes {B} means steps R c d =
     (s : B) (h : History) → (t : B) × (k : History) × R (stage s h c) (stage t k d) × (IsReached means steps (stage s h c) → IsPromised means steps (stage t k d))

@@ -10,7 +10,7 @@ use super::station::{Station, denial};
 use bus::memory::Bus;
 use lines::fault::JobFault;
 use lines::reply::Reply;
-use r3000::cpu::Core;
+use r3000::processor::Processor;
 use r3000::promise::promise;
 
 /// A job at work on a pile: an iterator over the replies that are still to come. Nothing is allocated.
@@ -20,8 +20,12 @@ use r3000::promise::promise;
 pub struct Job<'a, B> {
     /// A reply that is given before the next line is done.
     due: Option<Reply>,
+    // Pile and processor stand apart: the toolchain writes no proof for a program that names a type which has an argument
+    // with lent bytes and a kept fact in it, as an `Option<Station<B>>` would be.
     /// None only while a line is done.
-    station: Option<Station<B, Core<B>>>,
+    pile: Option<B>,
+    /// None before the start.
+    processor: Option<Processor>,
     /// The number of the next line, from 1.
     number: u32,
     lines: Lines<'a>,
@@ -29,18 +33,23 @@ pub struct Job<'a, B> {
 }
 
 impl<'a, B: Bus> Job<'a, B> {
+    ghost use Rattle.bus.specs.Meaning.{Meaning};
+    ghost use Rattle.bus.specs.declared.request.Request.{Request};
     ghost use Rattle.r3000.specs.Machine.{History};
-    ghost use Rattle.jobs.specs.Coming.{standing};
+    ghost use Rattle.jobs.specs.Coming.{standing, to_come};
+    ghost use Rattle.jobs.specs.Decided.{replies_on};
     ghost use Rattle.jobs.specs.Job.{begun};
 
     /// A job that is still to be done, on a pile.
     pub fn new(pile: B, bytes: &'a [u8]) -> Job<'a, B>
-        ensures { (start : B) (h : History) → standing start h result ≡ begun pile bytes.now }
+        ensures stands { (start : B) (h : History) → standing start h result ≡ begun pile bytes.now }
+        ensures replies { (next : Meaning → Request → Meaning) → to_come B.Bus.means next result ≡ replies_on next (B.Bus.means pile) bytes.now }
     {
         let too_long = bytes.len() > MAX_JOB;
         Job {
             due: too_long.then_some(denial(0, JobFault::TooLong)),
-            station: Some(Station::Loading(pile)),
+            pile: Some(pile),
+            processor: None,
             number: 1,
             lines: Lines(if too_long { &[] } else { bytes }),
         }
@@ -56,7 +65,7 @@ impl<'a, B: Bus + Drop> Iterator for Job<'a, B> {
 
     ghost next_gives = { NextGives B.Bus.means B.Bus.steps };
 
-    ghost remaining = { λ x. at_most (length (option_to_list x.due) + length (left_of x.station x.lines.0.now)) };
+    ghost remaining = { λ x. at_most (length (option_to_list x.due) + length (left_of x.pile x.lines.0.now)) };
 
     fn next(&mut self) -> Option<Reply> {
         promise::<B>();
@@ -64,8 +73,13 @@ impl<'a, B: Bus + Drop> Iterator for Job<'a, B> {
             return Some(reply);
         }
         let line = self.lines.next()?;
-        let (station, reply) = self.station.take()?.heed(self.number, line);
-        self.station = Some(station);
+        let station = Station {
+            pile: self.pile.take()?,
+            processor: self.processor,
+        };
+        let (station, reply) = station.heed(self.number, line);
+        self.pile = Some(station.pile);
+        self.processor = station.processor;
         self.number += 1;
         Some(reply)
     }

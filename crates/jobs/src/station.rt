@@ -1,12 +1,13 @@
 //! Where a job stands: loading, or running.
 
 ghost use Rattle.std.specs.Prelude.{◌≡◌, ◌∷◌, []};
-ghost use Rattle.r3000.specs.Machine.{fresh};
+ghost use Rattle.r3000.specs.Core.{machine};
+ghost use Rattle.r3000.specs.Machine.{History, fresh};
 ghost use Rattle.r3000.specs.Promise.{Happens};
 ghost use Rattle.bus.specs.Settled.{Settles};
 ghost use Rattle.bus.specs.declared.settle.Settled.{Settled};
 ghost use Rattle.jobs.specs.Job.{Heeds, denial};
-ghost use Rattle.jobs.specs.Station.{EarlyObeys, Goes, LateObeys, Obeys, load_end, loaded, stage, store};
+ghost use Rattle.jobs.specs.Station.{EarlyObeys, Goes, LateObeys, Obeys, load_end, loaded, loading, running, stage, store};
 ghost use Rattle.lines.specs.Line.{read_line};
 
 use bus::memory::Bus;
@@ -17,14 +18,15 @@ use lines::order::Order;
 use lines::reading::read;
 use lines::reply::{Denied, Reply};
 use r3000::cpu::Core;
+use r3000::processor::Processor;
 use r3000::promise::promise;
 
-/// A pile before the start, a core after it.
-// The core is a type of its own here: of an enum that names it the toolchain does not see how it is dropped elsewhere.
+/// A pile, and the processor that runs on it from the start on.
 #[derive(Drop)]
-pub enum Station<P, C> {
-    Loading(P),
-    Running(C),
+pub(crate) struct Station<B> {
+    pub(crate) pile: B,
+    /// None before the start.
+    pub(crate) processor: Option<Processor>,
 }
 
 /// Writes a word, and waits it out. A refusal of the bus becomes the load's fault.
@@ -55,17 +57,17 @@ pub(crate) fn denial(line: u32, fault: JobFault) -> Reply
 }
 
 /// An order before the start.
-fn early<B: Bus>(mut pile: B, order: Order) -> (Station<B, Core<B>>, Result<Reply, JobFault>)
+fn early<B: Bus>(mut pile: B, order: Order) -> (Station<B>, Result<Reply, JobFault>)
     ensures { EarlyObeys B.Bus.means B.Bus.steps pile order result.1 (stage pile fresh result.0) }
 {
     match order {
         Order::Load(address, word) => {
             let reply = load(&mut pile, address, word);
-            (Station::Loading(pile), reply)
+            (Station::loading(pile), reply)
         }
-        Order::Start => (Station::Running(Core::new(pile)), Ok(Reply::Started)),
+        Order::Start => (Station::running(Core::new(pile)), Ok(Reply::Started)),
         Order::Lines(_) | Order::Run(_) | Order::Show(_) => {
-            (Station::Loading(pile), Err(JobFault::BeforeStart))
+            (Station::loading(pile), Err(JobFault::BeforeStart))
         }
     }
 }
@@ -86,23 +88,43 @@ fn late<B: Bus>(core: &mut Core<B>, order: Order) -> Result<Reply, JobFault>
     }
 }
 
-impl<B: Bus> Station<B, Core<B>> {
-    /// Does what a line asks for.
-    fn obey(self, order: Order) -> (Station<B, Core<B>>, Result<Reply, JobFault>)
-        ensures { Goes B.Bus.means B.Bus.steps (λ e f. Obeys B.Bus.means B.Bus.steps e order result.1 f) self result.0 }
+impl<B: Bus> Station<B> {
+    /// Before the start.
+    pub(crate) fn loading(pile: B) -> Station<B>
+        ensures { (s : B) (h : History) → stage s h result ≡ loading pile }
     {
-        promise::<B>();
-        match self {
-            Station::Loading(pile) => early(pile, order),
-            Station::Running(mut core) => {
-                let reply = late(&mut core, order);
-                (Station::Running(core), reply)
-            }
+        Station {
+            pile,
+            processor: None,
         }
     }
 
+    /// From the start on.
+    fn running(core: Core<B>) -> Station<B>
+        ensures { (s : B) (h : History) → stage s h result ≡ running s (machine h core) }
+    {
+        let (processor, pile) = core.into_parts();
+        Station {
+            pile,
+            processor: Some(processor),
+        }
+    }
+
+    /// Does what a line asks for.
+    fn obey(self, order: Order) -> (Station<B>, Result<Reply, JobFault>)
+        ensures { Goes B.Bus.means B.Bus.steps (λ e f. Obeys B.Bus.means B.Bus.steps e order result.1 f) self result.0 }
+    {
+        promise::<B>();
+        let Some(processor) = self.processor else {
+            return early(self.pile, order);
+        };
+        let mut core = Core::from_parts(processor, self.pile);
+        let reply = late(&mut core, order);
+        (Station::running(core), reply)
+    }
+
     /// A line, and its reply.
-    pub(crate) fn heed(self, number: u32, line: &[u8]) -> (Station<B, Core<B>>, Reply)
+    pub(crate) fn heed(self, number: u32, line: &[u8]) -> (Station<B>, Reply)
         ensures { Goes B.Bus.means B.Bus.steps (λ e f. Heeds B.Bus.means B.Bus.steps e number (read_line line.now) (result.1 ∷ []) f) self result.0 }
     {
         promise::<B>();

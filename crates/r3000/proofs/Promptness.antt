@@ -98,7 +98,7 @@ module _ {S : Type 0} {means : S → Meaning} {steps : S → Request → Answer 
 
   -- the row after an unfrozen cycle, if all successors have it
   next : (p : ℕ → Bool) (c d : Machine S) → Cycle steps c false d → T (all p (successors (hand c.state).sequencing (hand c.state).amic)) → T (p d.state.row)
-  next p c d h all = subst (λ s. T (p s.row)) (sym h.state) (follows p (hand c.state).sequencing (hand c.state).amic c.state.regs _ _ c.lines _ all)
+  next p c d h all = subst (λ s. T (p s.row)) (sym h.state) (follows below.listed p (hand c.state).sequencing (hand c.state).amic c.state.regs _ _ c.lines _ all)
 
   is_row : (since : ℕ) (c d : Machine S) → Cycle steps c false d → Soon since c → d.state.row < 1024
   is_row since c d h near = ltb-true _ _ (true_test _ (next (λ k. ltb k 1024) c d h (left _ _ (below.rows c.state.row near.row))))

@@ -2,8 +2,8 @@
 
 ghost use Rattle.std.specs.Prelude.{◌≡◌, slice_index};
 ghost use Rattle.r3000.specs.Calls.{Clocks, Runs, ledger_reply, lines_reply, lines_set, look_reply, register_reply};
-ghost use Rattle.r3000.specs.Core.{machine, numbered, pile_of, state_of};
-ghost use Rattle.r3000.specs.Machine.{built, fresh};
+ghost use Rattle.r3000.specs.Core.{machine, made, numbered, pile_of, state_of};
+ghost use Rattle.r3000.specs.Machine.{History, built, fresh};
 ghost use Rattle.r3000.specs.Promise.{Happens, Promised, Upholds};
 
 use super::denial::Denial;
@@ -33,6 +33,20 @@ impl<B: Bus> Core<B> {
             processor: Processor::new(),
             pile,
         }
+    }
+
+    /// Takes the core apart: its processor, and its pile.
+    pub fn into_parts(self) -> (Processor, B)
+        ensures { (h : History) → made h result.0 result.1 ≡ machine h self }
+    {
+        (self.processor, self.pile)
+    }
+
+    /// Puts a core together again.
+    pub fn from_parts(processor: Processor, pile: B) -> Core<B>
+        ensures { (h : History) → machine h result ≡ made h processor pile }
+    {
+        Core { processor, pile }
     }
 
     /// One cycle, unless the cycles would pass their limit.

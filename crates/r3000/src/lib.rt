@@ -8,6 +8,6 @@ pub mod cpu;
 pub mod denial;
 pub mod limits;
 pub mod perform;
-mod processor;
+pub mod processor;
 pub mod promise;
 pub mod report;

@@ -1,3 +1,3 @@
-mod Examples
+mod Computed
 mod Front
-mod Replies
+mod Progress

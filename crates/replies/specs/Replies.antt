@@ -1,14 +1,47 @@
 -- What a job is answered on a pile of zeroes. Assumes nothing.
-use Rattle.std.specs.Prelude.{ℕ, List, replicate}
+use Rattle.std.specs.Prelude.{◌≡◌, ℕ, ◌+◌, List, [], ◌∷◌, ◌++◌, codes, replicate}
 use Rattle.bus.specs.Meaning.{Meaning}
-use Rattle.jobs.specs.Decided.{output}
+use Rattle.jobs.specs.Coming as job
+use Rattle.jobs.specs.Decided.{replies_on}
+use Rattle.jobs.specs.Limits.{max_job}
+use Rattle.lines.specs.Written.{written}
+use Rattle.lines.specs.declared.reply.Reply.{Reply}
 use Rattle.pile.specs.Decided.{next}
-use Rattle.pile.specs.Job.{job_pile}
+use Rattle.pile.specs.Job.{high_length, job_pile, low_length, pile_means}
+use Rattle.replies.specs.declared.Replies.{Replies}
 
 -- the jobs' pile, where both memories begin with zeroes
 abbrev pub zeroed : Meaning
-zeroed = job_pile (replicate 16384 0) (replicate 4096 0)
+zeroed = job_pile (replicate low_length 0) (replicate high_length 0)
 
--- the bytes of the replies to a job on it
-abbrev pub replies_to : List ℕ → List ℕ
-replies_to job = output next zeroed job
+-- the replies to a job on it
+abbrev pub replies_to : List ℕ → List Reply
+replies_to bytes = replies_on next zeroed bytes
+
+-- the bytes of replies one after another
+abbrev pub all_written : List Reply → List ℕ
+all_written [] = []
+all_written (r ∷ rs) = written r ++ all_written rs
+
+-- the bytes of the replies to a job
+abbrev pub answer_to : List ℕ → List ℕ
+answer_to bytes = all_written (replies_to bytes)
+
+-- the replies that are still to come
+abbrev pub to_come : Replies → List Reply
+to_come r = job.to_come pile_means next r.0
+
+-- so many bytes of a job tell its replies: one more than a job may have tells that it is too long
+abbrev pub enough : ℕ
+enough = max_job + 1
+
+-- a job of four lines: one wait for each request makes one frozen fetch of the reset and one of the instruction
+abbrev pub example_job : List ℕ
+example_job = codes "10 BFC00000 3C011234\n20\n40 0008\n50 01\n"
+
+abbrev pub example_replies : List ℕ
+example_replies = codes "10\n20\n40 0000000000000008 0000000000000002 0000000000000002\n50 01 12340000\n"
+
+-- and what it is answered
+abbrev pub ExampleHolds : Type 0
+ExampleHolds = answer_to example_job ≡ example_replies

@@ -2,29 +2,47 @@
 
 #![tactic(auto)]
 
-ghost use Rattle.std.specs.Prelude.{◌≡◌, ℕ, List, take, IfOk};
-ghost use Rattle.replies.specs.Replies.{replies_to};
+ghost use Rattle.std.specs.Prelude.{◌≡◌, ℕ, List, take};
+ghost use Rattle.std.specs.Iterator.{YieldsFirst, item_count};
+ghost use Rattle.replies.specs.Replies.{enough, replies_to, to_come};
 
-#[cfg(test)]
-mod tests;
+pub mod example;
 
-use jobs::job::run;
-use pile::job::{HIGH_LENGTH, LOW_LENGTH, pile};
-use std::alloc::{AllocError, Global};
+use jobs::job::Job;
+use lines::reply::Reply;
+use pile::job::{Memories, Pile, goes_on};
+
+/// A job at work on the pile of jobs: an iterator over the replies that are still to come. Nothing is allocated.
+#[derive(Drop)]
+pub struct Replies<'a>(Job<'a, Pile<'a>>);
+
+impl<'a> Replies<'a> {
+    /// The replies to a job. The memories are zeroed, and lent to its pile.
+    pub fn new(memories: &'a mut Memories, job: &'a [u8]) -> Replies<'a>
+        ensures { to_come result ≡ replies_to job.now }
+    {
+        *memories = Memories::zeroed();
+        Replies(Job::new(memories.pile(), job))
+    }
+}
+
+impl<'a> Iterator for Replies<'a> {
+    type Item = Reply;
+
+    ghost next_gives = { YieldsFirst to_come };
+
+    ghost remaining = { item_count to_come };
+
+    fn next(&mut self) -> Option<Reply> {
+        goes_on();
+        self.0.next()
+    }
+}
 
 /// How many bytes of a job tell its replies: one more than a job may have tells that it is too long.
 pub fn enough() -> u64
-    ensures value { result ≡ 65537 }
+    ensures value { result ≡ enough }
     ensures tells { (job : List ℕ) → replies_to (take result job) ≡ replies_to job }
 {
     65_537
-}
-
-/// Runs a job on a pile of zeroes. The bytes of its replies come back.
-pub fn answer(heap: Global, job: &[u8]) -> Result<Vec<u8>, AllocError>
-    ensures { IfOk result (λ v. v.items ≡ replies_to job.now) }
-{
-    let mut low = vec![in heap; 0u8; LOW_LENGTH]?;
-    let mut high = vec![in heap; 0u8; HIGH_LENGTH]?;
-    run(heap, pile(&mut low, &mut high), job)
 }

@@ -1,5 +1,5 @@
-use Rattle.replies.proofs.Front.{enough}
+use Rattle.replies.proofs.Front.{front_tells}
 use Rattle.replies.proofs.enough.Goals as goal
 
 pub returns-clause-tells : goal.returns-clause-tells
-returns-clause-tells c = enough
+returns-clause-tells c = front_tells

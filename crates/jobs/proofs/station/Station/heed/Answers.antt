@@ -5,8 +5,8 @@ use Rattle.jobs.specs.Station.{IsPromised, IsReached, stage}
 use Rattle.lines.specs.declared.fault.JobFault.{JobFault}
 use Rattle.lines.specs.declared.reply.Reply.{Reply}
 use Rattle.jobs.proofs.Promised.{promised}
-use Rattle.jobs.proofs.station.Station+B+Core+B.heed.Goals as goal
-use Rattle.jobs.proofs.station.Station+B+Core+B.heed.Goals.{in-Err, in-Ok}
+use Rattle.jobs.proofs.station.Station.heed.Goals as goal
+use Rattle.jobs.proofs.station.Station.heed.Goals.{in-Err, in-Ok}
 
 -- a denial takes the place of a reply
 replied : (n : ℕ) (r : Reply) (q : Result Reply JobFault) → MatchResult q (λ x. r ≡ x) (λ f. r ≡ denial n f) → answered n q ≡ r ∷ []
