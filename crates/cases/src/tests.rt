@@ -5,73 +5,65 @@ use super::{
     arithmetic, branches, calls, cycles, errors, handlers, interrupts, jumps, memory, misplaced,
     products, programs, reading, resets, system, user, user_memory,
 };
-use replies::answer;
+use replies::example::first_job;
 use std::alloc::{AllocError, Global};
 use std::process::Abort;
 use std::test::Fail;
 
 /// Stops at the first case of a table that is answered otherwise, and names it by its place, from 0.
-fn hold(rt: &(impl Abort + AllocGlobal), table: &str, cases: &[Case]) -> Result<(), AllocError> {
+fn hold(rt: &impl Abort, table: &str, cases: &[Case]) {
     for (number, case) in cases.iter().enumerate() {
         assert!(rt;
-            holds(rt.alloc(), case.job.as_bytes(), case.replies.as_bytes())?,
+            holds(case.job.as_bytes(), case.replies.as_bytes()),
             "case {number} of {table}: {}",
             case.job
         );
     }
-    Ok(())
 }
 
 #[test]
-fn lines_and_denials(rt: HostRuntime) -> Result<(), Fail> {
-    hold(&rt, "reading", reading::cases())?;
-    Ok(())
+fn lines_and_denials(rt: HostRuntime) {
+    hold(&rt, "reading", reading::cases());
 }
 
 #[test]
-fn runs_and_cycles(rt: HostRuntime) -> Result<(), Fail> {
-    hold(&rt, "calls", calls::cases())?;
-    hold(&rt, "cycles", cycles::cases())?;
-    Ok(())
+fn runs_and_cycles(rt: HostRuntime) {
+    hold(&rt, "calls", calls::cases());
+    hold(&rt, "cycles", cycles::cases());
 }
 
 #[test]
-fn instructions(rt: HostRuntime) -> Result<(), Fail> {
-    hold(&rt, "arithmetic", arithmetic::cases())?;
-    hold(&rt, "products", products::cases())?;
-    hold(&rt, "branches", branches::cases())?;
-    hold(&rt, "jumps", jumps::cases())?;
-    hold(&rt, "system", system::cases())?;
-    hold(&rt, "user", user::cases())?;
-    Ok(())
+fn instructions(rt: HostRuntime) {
+    hold(&rt, "arithmetic", arithmetic::cases());
+    hold(&rt, "products", products::cases());
+    hold(&rt, "branches", branches::cases());
+    hold(&rt, "jumps", jumps::cases());
+    hold(&rt, "system", system::cases());
+    hold(&rt, "user", user::cases());
 }
 
 #[test]
-fn loads_and_stores(rt: HostRuntime) -> Result<(), Fail> {
-    hold(&rt, "memory", memory::cases())?;
-    hold(&rt, "misplaced", misplaced::cases())?;
-    hold(&rt, "user_memory", user_memory::cases())?;
-    Ok(())
+fn loads_and_stores(rt: HostRuntime) {
+    hold(&rt, "memory", memory::cases());
+    hold(&rt, "misplaced", misplaced::cases());
+    hold(&rt, "user_memory", user_memory::cases());
 }
 
 #[test]
-fn interrupts_and_resets(rt: HostRuntime) -> Result<(), Fail> {
-    hold(&rt, "interrupts", interrupts::cases())?;
-    hold(&rt, "handlers", handlers::cases())?;
-    hold(&rt, "resets", resets::cases())?;
-    Ok(())
+fn interrupts_and_resets(rt: HostRuntime) {
+    hold(&rt, "interrupts", interrupts::cases());
+    hold(&rt, "handlers", handlers::cases());
+    hold(&rt, "resets", resets::cases());
 }
 
 #[test]
-fn bus_errors(rt: HostRuntime) -> Result<(), Fail> {
-    hold(&rt, "errors", errors::cases())?;
-    Ok(())
+fn bus_errors(rt: HostRuntime) {
+    hold(&rt, "errors", errors::cases());
 }
 
 #[test]
-fn words_drawn_by_lot(rt: HostRuntime) -> Result<(), Fail> {
-    hold(&rt, "programs", programs::cases())?;
-    Ok(())
+fn words_drawn_by_lot(rt: HostRuntime) {
+    hold(&rt, "programs", programs::cases());
 }
 
 /// A start, one cycle, and a field that fills the job up to a length.
@@ -91,15 +83,15 @@ const TOO_LONG: &str = "FF 01 00000000 00000000\n";
 fn the_longest_job(rt: HostRuntime) -> Result<(), Fail> {
     let heap = rt.alloc();
     let job = long_job(heap, 65_536)?;
-    assert!(rt; answer(heap, &job)?.as_slice() == FILLED.as_bytes());
+    assert!(rt; holds(&job, FILLED.as_bytes()));
     let job = long_job(heap, 65_537)?;
-    assert!(rt; answer(heap, &job)?.as_slice() == TOO_LONG.as_bytes());
+    assert!(rt; holds(&job, TOO_LONG.as_bytes()));
     let mut job = long_job(heap, 65_535)?;
     job.push(b'\n')?;
-    assert!(rt; answer(heap, &job)?.as_slice() == FILLED.as_bytes());
+    assert!(rt; holds(&job, FILLED.as_bytes()));
     let mut job = long_job(heap, 65_536)?;
     job.push(b'\n')?;
-    assert!(rt; answer(heap, &job)?.as_slice() == TOO_LONG.as_bytes());
+    assert!(rt; holds(&job, TOO_LONG.as_bytes()));
     Ok(())
 }
 
@@ -107,8 +99,16 @@ fn the_longest_job(rt: HostRuntime) -> Result<(), Fail> {
 fn the_most_lines(rt: HostRuntime) -> Result<(), Fail> {
     let heap = rt.alloc();
     let job = vec![in heap; b'\n'; 65_536]?;
-    let replies = answer(heap, &job)?;
-    assert_eq!(rt; replies.len(), 65_536 * TOO_LONG.len());
-    assert!(rt; replies.ends_with(b"FF 02 00010000 00000000\n"));
+    let mut replies = Vec::new(heap);
+    for line in 1..=65_536u32 {
+        replies.extend_from_slice(format!(in heap; "FF 02 {line:08X} 00000000\n")?.as_bytes())?;
+    }
+    assert!(rt; holds(&job, &replies));
     Ok(())
+}
+
+#[test]
+fn the_example(rt: HostRuntime) {
+    let example = first_job();
+    assert!(rt; holds(example.job, example.replies));
 }
