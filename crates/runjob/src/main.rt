@@ -4,15 +4,16 @@
 
 mod failure;
 mod input;
+mod output;
+mod run;
 
 use failure::Failure;
-use input::read_job;
-use replies::answer;
 use std::io;
-use std::io::Write;
 
-fn main(rt: HostRuntime) -> Result<(), Failure> {
-    let job = read_job(rt.alloc(), rt.reader())?;
-    let replies = answer(rt.alloc(), &job)?;
-    Ok(io::writer(&rt).write_all(&replies)?)
+/// How often a read or a write that was interrupted is tried again.
+const RETRIES: u32 = 1_000;
+
+fn main(rt: HostRuntime) -> anyhow::Result<()> {
+    let (mut reader, mut writer) = (rt.reader(), io::writer(&rt));
+    run::run(rt.alloc(), &mut reader, &mut writer).map_err(Failure::told)
 }
