@@ -5,6 +5,8 @@
 #[cfg(test)]
 mod arithmetic;
 #[cfg(test)]
+mod boundaries;
+#[cfg(test)]
 mod branches;
 #[cfg(test)]
 mod calls;
