@@ -3,7 +3,7 @@
 ghost use Rattle.std.specs.Iterator.{YieldsFirstRef, item_count};
 ghost use Rattle.jobs.specs.Job.{lines_of};
 
-// A type, and no chain in `run`: a `for` of a generic function over an iterator that holds a closure gets no proof.
+// A type, and no chain of the library: its meaning is the list of lines, whatever cuts them.
 
 /// The lines that are still to come of a job, each without the byte that ends it.
 #[derive(Drop)]
