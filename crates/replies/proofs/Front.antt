@@ -1,5 +1,5 @@
 -- As many bytes of a job as tell that it is too long tell its replies. Assumes nothing.
-use Rattle.std.proofs.Common.{◌≡◌, ℕ, ◌+◌, Bool, true, false, cond, List, [], ◌∷◌, length, take, ltb, refl, arith}
+use Rattle.std.proofs.Common.{◌≡◌, ℕ, ◌<◌, Bool, true, false, cond, List, [], ◌∷◌, length, take, ltb, refl, arith}
 use Rattle.std.proofs.lemmas.Bool.{ltb-false, ltb-true, lt-ltb}
 use Rattle.std.proofs.lemmas.List.{length-take, take_all}
 use Rattle.jobs.specs.Decided.{loading, replies}
@@ -9,18 +9,17 @@ use Rattle.lines.specs.declared.fault.JobFault.TheVariants as fault
 use Rattle.lines.specs.declared.reply.Reply.{Reply}
 use Rattle.pile.specs.Decided.{next}
 use Rattle.replies.specs.Replies.{replies_to, zeroed}
-use Rattle.replies.specs.Replies as replies
 
-front : (n : ℕ) (f : List ℕ → List Reply) (t : List Reply) (job : List ℕ) → cond (ltb n (length (take (n + 1) job))) t (f (take (n + 1) job)) ≡ cond (ltb n (length job)) t (f job)
-front n f t job = by (ltb n (length job)) refl
+front : (n m : ℕ) → n < m → (f : List ℕ → List Reply) (t : List Reply) (job : List ℕ) → cond (ltb n (length (take m job))) t (f (take m job)) ≡ cond (ltb n (length job)) t (f job)
+front n m more f t job = by (ltb n (length job)) refl
   where
-    by : (b : Bool) → ltb n (length job) ≡ b → cond (ltb n (length (take (n + 1) job))) t (f (take (n + 1) job)) ≡ cond (ltb n (length job)) t (f job)
+    by : (b : Bool) → ltb n (length job) ≡ b → cond (ltb n (length (take m job))) t (f (take m job)) ≡ cond (ltb n (length job)) t (f job)
     by true e =
-        let long : ltb n (length (take (n + 1) job)) ≡ true = lt-ltb n _ (omega (arith, length-take (n + 1) job, ltb-true n (length job) e)) in
+        let long : ltb n (length (take m job)) ≡ true = lt-ltb n _ (omega (arith, length-take m job, ltb-true n (length job) e)) in
         rw (long, e) refl
     by false e =
-        let all : take (n + 1) job ≡ job = take_all (n + 1) job (omega (arith, ltb-false n (length job) e)) in
+        let all : take m job ≡ job = take_all m job (omega (arith, ltb-false n (length job) e)) in
         rw all refl
 
-pub front_tells : (job : List ℕ) → replies_to (take replies.enough job) ≡ replies_to job
-front_tells job = front max_job (λ bytes. replies next (loading zeroed) 1 (lines_of bytes)) (denial 0 fault.TooLong ∷ []) job
+pub front_tells : (n : ℕ) → max_job < n → (job : List ℕ) → replies_to (take n job) ≡ replies_to job
+front_tells n more job = front max_job n more (λ bytes. replies next (loading zeroed) 1 (lines_of bytes)) (denial 0 fault.TooLong ∷ []) job
