@@ -2,3 +2,4 @@ mod Coming
 mod Decided
 mod Lines
 mod Promised
+mod Taken

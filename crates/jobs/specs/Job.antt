@@ -47,6 +47,11 @@ begun pile job =
     (record { due = denial 0 fault.TooLong ∷ []; stage = loading pile; number = 1; left = [] })
     (record { due = []; stage = loading pile; number = 1; left = lines_of job })
 
+-- the last of some replies, if there is one
+abbrev pub last_of : List Reply → Option Reply
+last_of [] = None
+last_of (r ∷ rs) = elim (last_of rs) [ Some q ↦ Some q | None ↦ Some r ]
+
 module _ {S : Type 0} (means : S → Meaning) (steps : S → Request → Answer → S → Type 0) where
   -- a line that was read: denied by its form, or an order
   abbrev pub Heeds : Stage S → ℕ → Result Order JobFault → List Reply → Stage S → Type 0

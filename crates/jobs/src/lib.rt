@@ -6,3 +6,4 @@ mod cut;
 pub mod job;
 pub mod limits;
 pub mod station;
+pub mod whole;

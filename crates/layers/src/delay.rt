@@ -1,7 +1,8 @@
 //! Delay: a memory that answers later.
 
 ghost use Rattle.std.specs.Prelude.{◌≡◌};
-ghost use Rattle.layers.specs.Delay.{DelaySteps, delay, delay_means, lowered};
+ghost use Rattle.bus.specs.Request.{access_of};
+ghost use Rattle.layers.specs.Delay.{DelaySteps, delay, delay_means, ended, lowered};
 ghost use Rattle.layers.specs.Keeps.Delay.{delay_keeps};
 ghost use Rattle.layers.specs.declared.delay.State.TheVariants.{Idle};
 
@@ -41,6 +42,23 @@ impl<B: Bus> Delay<B> {
     {
         u16::from(self.n).min(MAX_WAIT - self.below.longest_wait()) as u8
     }
+
+    /// Asks the memory below: its wait keeps the delay counting at 0, done and bus error make it idle.
+    fn ask(&mut self, q: Request) -> Answer
+        ensures n { self.new.n ≡ self.old.n }
+        ensures below { B.Bus.steps self.old.below q result self.new.below }
+        ensures state { self.new.state ≡ ended (access_of q) result }
+    {
+        let answer = self.below.request(q);
+        self.state = match answer {
+            Answer::Wait => State::Counting {
+                access: q.access(),
+                left: 0,
+            },
+            Answer::BusError | Answer::Done(_) => State::Idle,
+        };
+        answer
+    }
 }
 
 impl<B: Bus> Bus for Delay<B> {
@@ -52,30 +70,20 @@ impl<B: Bus> Bus for Delay<B> {
 
     fn request(&mut self, q: Request) -> Answer {
         let n = self.own_waits();
-        // The counted request goes on at the count that stands, any other starts it at n.
         match (&mut self.state, q.access()) {
-            (State::Counting { access, left }, asked) if access.same(asked) => {
-                *left = (*left).min(n);
-            }
-            (state, asked) => {
-                *state = State::Counting {
-                    access: asked,
-                    left: n,
-                };
-            }
-        }
-        match &mut self.state {
-            State::Counting { left, .. } if *left > 0 => {
-                *left -= 1;
+            (State::Counting { access, left }, asked) if access.same(asked) && n.min(*left) > 0 => {
+                *left = n.min(*left) - 1;
                 Answer::Wait
             }
-            state => {
-                let answer = self.below.request(q);
-                if answer != Answer::Wait {
-                    *state = State::Idle;
-                }
-                answer
+            (State::Counting { access, .. }, asked) if access.same(asked) => self.ask(q),
+            (state, asked) if n > 0 => {
+                *state = State::Counting {
+                    access: asked,
+                    left: n - 1,
+                };
+                Answer::Wait
             }
+            _ => self.ask(q),
         }
     }
 

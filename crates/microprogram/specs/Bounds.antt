@@ -44,7 +44,10 @@ ending (suc rows) touch n =
     nat_le (accesses (row_at n).transfer) touch
     && elim (ends (row_at n).sequencing) [ true ↦ true | false ↦ all (ending rows (touch - accesses (row_at n).transfer)) (successors (row_at n).sequencing (row_at n).amic) ]
 
--- how many accesses the rows of a path make at most
+-- how many rows a path has at most, and how many accesses they make
+abbrev pub most_rows : ℕ
+most_rows = 7
+
 abbrev pub most_accesses : ℕ
 most_accesses = 2
 

@@ -9,9 +9,12 @@ pub struct Entry {
     pub epc: u32,
 }
 
+/// How many codes there are.
+pub const CODES: usize = 16;
+
 #[derive(Clone, Copy, Default)]
 pub struct Ledger {
-    pub entries: [Entry; 16],
+    pub entries: [Entry; CODES],
 }
 
 impl Ledger {

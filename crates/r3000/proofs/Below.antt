@@ -4,7 +4,7 @@ use Rattle.book.specs.Book.{Book, Event}
 use Rattle.book.specs.Instant.{StillKeeps}
 use Rattle.book.specs.Length.{length_of}
 use Rattle.book.specs.Path.{Begins, StepsArePaths, StepsFit}
-use Rattle.microprogram.specs.Bounds.{RowsEnd, RowsListed}
+use Rattle.microprogram.specs.Bounds.{RowsEnd, RowsListed, most_rows}
 
 pub record Below : Type 0 where
   pub memory : StillKeeps
@@ -12,5 +12,5 @@ pub record Below : Type 0 where
   pub begins : Begins
   pub words : StepsFit
   pub some : (b : Book) (v : Event) → 0 < length_of b v
-  pub rows : RowsEnd 7
+  pub rows : RowsEnd most_rows
   pub listed : RowsListed

@@ -5,6 +5,7 @@ use Rattle.book.specs.Length.{length_of}
 use Rattle.bus.specs.Meaning.{Meaning}
 use Rattle.bus.specs.declared.request.Answer.{Answer}
 use Rattle.bus.specs.declared.request.Request.{Request}
+use Rattle.microprogram.specs.Bounds.{most_accesses, most_rows}
 use Rattle.microprogram.specs.Cycle.{State}
 use Rattle.microprogram.specs.Registers.{reg}
 use Rattle.microprogram.specs.declared.fault.Fault.{Fault}
@@ -36,7 +37,7 @@ pub record Agrees (b : Book) (s : State) (m : Meaning) : Type 0 where
 
 -- the granted cycle with which the next boundary comes at the latest, counted from the one before or from power-up: 7 + 2 W
 abbrev pub latest : Meaning → ℕ
-latest m = 7 + 2 * m.longest
+latest m = most_rows + most_accesses * m.longest
 
 -- whether a flag is up
 abbrev pub Up : State → Fault → Type 0
@@ -52,7 +53,7 @@ pub record Promise {S : Type 0} (means : S → Meaning) (start : S) (c : Machine
   pub sum : c.report.cycles ≡ c.report.frozen + lengths (means start) c.history.lines + c.report.place
   -- promptness: the latest granted cycle after a boundary, or after power-up, is not made without a boundary
   pub promptness : c.history.since < latest (means start)
-  -- register 0 is zero, and at most one flag is up
+  -- register 0 is zero, and at most one flag is up (of which the flag's type leaves no more)
   pub register_0 : reg c.state.regs 0 ≡ 0
   pub one_flag : (f g : Fault) → Up c.state f → Up c.state g → f ≡ g
 

@@ -3,6 +3,7 @@
 ghost use Rattle.std.specs.Prelude.{◌≡◌, None};
 
 use super::denial::Denial;
+use super::limits::REGISTERS;
 use super::report::{Clocked, Report};
 use microprogram::ledger::Entry;
 
@@ -26,7 +27,7 @@ pub enum Reply {
     Run(Report),
     Lines,
     Register(u32),
-    Snapshot([u32; 42]),
+    Snapshot([u32; REGISTERS]),
     Ledger(Entry),
     Look(u8),
 }

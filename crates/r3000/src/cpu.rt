@@ -7,7 +7,7 @@ ghost use Rattle.r3000.specs.Machine.{History, built, fresh};
 ghost use Rattle.r3000.specs.Promise.{Happens, Promised, Upholds};
 
 use super::denial::Denial;
-use super::limits::MAX_LINES;
+use super::limits::{MAX_LINES, REGISTERS};
 use super::processor::Processor;
 use super::promise::promise;
 use super::report::{Clocked, Report};
@@ -92,7 +92,7 @@ impl<B: Bus> Core<B> {
     }
 
     /// All registers: 0–31, then PC, HI, LO, SR, CR, EPC, BAR, AD, IR and DT. Register 0 is zero.
-    pub fn snapshot(&self) -> [u32; 42]
+    pub fn snapshot(&self) -> [u32; REGISTERS]
         ensures reply { result ≡ numbered (state_of self.now) }
         ensures zero { slice_index result 0 ≡ 0 }
         ensures core { Happens B.Bus.means B.Bus.steps (λ c d. d ≡ c) self.now self.now }
@@ -100,7 +100,7 @@ impl<B: Bus> Core<B> {
         promise::<B>();
         let chip = &self.processor.chip;
         let registers = &chip.registers;
-        let mut all = [0; 42];
+        let mut all = [0; REGISTERS];
         all[32..].copy_from_slice(&[
             registers.pc,
             registers.hi,
