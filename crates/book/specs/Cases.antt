@@ -5,7 +5,7 @@ use Rattle.book.specs.declared.law.WorkedCases.{WorkedCases}
 use Rattle.microprogram.specs.Ledger.{blank}
 use Rattle.microprogram.specs.Word.{cause}
 
--- a machine about to run an instruction, with two general registers and SR; all else is zero
+-- a machine about to run an instruction, with PC, two general registers and SR; all else is zero
 abbrev running : ℕ → ℕ → ℕ → ℕ → ℕ → Book
 running ir pc one two sr =
     record {

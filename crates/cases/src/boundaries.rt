@@ -6,6 +6,7 @@ use bus::settle::settle;
 use layers::delay::Delay;
 use pile::job::Memories;
 use r3000::cpu::Core;
+use r3000::limits::REGISTERS;
 use std::alloc::{AllocError, Global};
 use std::test::Fail;
 
@@ -32,10 +33,13 @@ const FIRMWARE: [(u32, u32); 18] = [
 ];
 
 /// DT's number. No firmware reads it, and only at a boundary do two piles agree on the rest.
-const DT: usize = 41;
+const DT: usize = REGISTERS - 1;
 
 /// The snapshots at the boundaries of 6,000 cycles, DT set aside. IT0 is up before every 16th boundary.
-fn snapshots<B: Bus + Drop>(heap: Global, mut pile: B) -> Result<Vec<[u32; 42]>, AllocError> {
+fn snapshots<B: Bus + Drop>(
+    heap: Global,
+    mut pile: B,
+) -> Result<Vec<[u32; REGISTERS]>, AllocError> {
     for (address, word) in FIRMWARE {
         let _ = settle(&mut pile, Request::write(Width::Word, address, word));
     }

@@ -16,7 +16,8 @@ use Rattle.r3000.specs.Machine.{History, Machine, fresh}
 use Rattle.r3000.specs.declared.processor.Processor.{Processor}
 
 module _ {B : Type 0} where
-  -- the stage of a job; one without a pile would be at its end, before a start
+  -- the stage of a job, on the pile of its start; a job has its pile whenever it is not at work, and without one it would be at
+  -- its end
   abbrev pub stage_of : B → History → Option B → Option Processor → Stage B
   stage_of s h (Some pile) processor = stage s h (record { pile = pile; processor = processor })
   stage_of s h None processor = loading s

@@ -19,7 +19,7 @@ abbrev pub left : ℕ → State → Access → ℕ
 left n Idle x = n
 left n (Counting access count) x = cond (same access x) (min count n) n
 
--- the delay's own waits come before those of the memory below, and W grows by n
+-- the delay's own waits come before those of the memory below, and W grows by n, lowered
 abbrev pub delay : ℕ → State → Meaning → Meaning
 delay n state m =
     record {

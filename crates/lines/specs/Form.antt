@@ -39,7 +39,7 @@ count_width = 16
 abbrev pub space : ℕ
 space = 0x20
 
--- the byte that ends a reply
+-- the byte that ends a line, and a reply
 abbrev pub end : ℕ
 end = 0x0A
 

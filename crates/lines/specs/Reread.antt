@@ -37,7 +37,7 @@ abbrev pub reread_fields : List (List ℕ) → Option Reply
 reread_fields [] = None
 reread_fields (f ∷ fs) = cond (length f == code_width) (reread_as (value_of f) fs) None
 
--- the reply that a line, without its byte 0A, tells
+-- the reply that a line in form, without its byte 0A, tells
 abbrev pub reread : List ℕ → Option Reply
 reread line = reread_fields (fields_of line)
 

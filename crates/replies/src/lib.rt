@@ -9,6 +9,7 @@ ghost use Rattle.replies.specs.Replies.{enough, replies_to, to_come};
 pub mod example;
 
 use jobs::job::Job;
+use jobs::limits::MAX_JOB;
 use lines::reply::Reply;
 use pile::job::{Memories, Pile, goes_on};
 
@@ -44,5 +45,5 @@ pub fn enough() -> u64
     ensures value { result ≡ enough }
     ensures tells { (job : List ℕ) → replies_to (take result job) ≡ replies_to job }
 {
-    65_537
+    MAX_JOB as u64 + 1
 }

@@ -1,11 +1,12 @@
 //! The calls that the program makes.
 
 use Call::{Clock, Ledger, Lines, Look, Register, Run, Snapshot};
+use microprogram::ledger::CODES;
 use r3000::call::{Call, Exchange};
 use std::alloc::{AllocError, Global};
 
-/// Start, an interrupt that comes and goes, a reset, what the core shows of itself, and calls that it denies.
-const SCRIPT: [Call; 22] = [
+/// Start, two interrupts that come and go, a reset, what the core shows of itself, and calls that it denies.
+const SCRIPT: [Call; 26] = [
     Clock,
     Clock,
     Clock,
@@ -18,6 +19,10 @@ const SCRIPT: [Call; 22] = [
     Look(0x8000_0100),
     Look(0x8000_0104),
     Register(3),
+    Lines(0x01),
+    Run(26),
+    Lines(0x00),
+    Run(25),
     Lines(0x40),
     Run(9),
     Register(36),
@@ -35,6 +40,6 @@ pub(crate) fn exchanges(heap: Global) -> Result<Vec<Exchange>, AllocError> {
     let mut exchanges = vec![in heap; Exchange::new(Snapshot)]?;
     let script = SCRIPT.into_iter().flat_map(|call| [call, Snapshot]);
     exchanges.extend(script.map(Exchange::new))?;
-    exchanges.extend((0..16).map(Ledger).map(Exchange::new))?;
+    exchanges.extend((0..CODES as u8).map(Ledger).map(Exchange::new))?;
     Ok(exchanges)
 }

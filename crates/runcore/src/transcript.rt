@@ -7,6 +7,7 @@ use bus::settle::Settled;
 use microprogram::ledger::Entry;
 use r3000::call::{Call, Exchange, Reply};
 use r3000::denial::Denial;
+use r3000::limits::REGISTERS;
 use r3000::report::Report;
 use std::fmt;
 
@@ -60,7 +61,7 @@ impl fmt::Display for Loaded {
     }
 }
 
-/// A call as it is printed.
+/// A call as it is printed; the program shows a snapshot by the registers that changed.
 #[derive(Clone, Copy)]
 struct Asked(Call);
 
@@ -194,7 +195,11 @@ impl fmt::Display for Changed {
 }
 
 /// The registers that differ between two snapshots.
-fn compare(rt: &impl Print, before: &[u32; 42], after: &[u32; 42]) -> anyhow::Result<()> {
+fn compare(
+    rt: &impl Print,
+    before: &[u32; REGISTERS],
+    after: &[u32; REGISTERS],
+) -> anyhow::Result<()> {
     for (register, (old, new)) in before.iter().zip(after).enumerate() {
         if old != new {
             let word = *new;
@@ -206,7 +211,7 @@ fn compare(rt: &impl Print, before: &[u32; 42], after: &[u32; 42]) -> anyhow::Re
 
 /// Every call with its reply, and the registers that it changed.
 pub(crate) fn performed(rt: &impl Print, exchanges: &[Exchange]) -> anyhow::Result<()> {
-    let mut before = [0; 42];
+    let mut before = [0; REGISTERS];
     for exchange in exchanges {
         let call = exchange.call;
         let reply = exchange.reply.context("a call was not made")?;
