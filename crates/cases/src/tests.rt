@@ -5,6 +5,9 @@ use super::{
     arithmetic, branches, calls, cycles, errors, handlers, interrupts, jumps, memory, misplaced,
     products, programs, reading, resets, system, user, user_memory,
 };
+use jobs::whole::last_reply;
+use lines::reply::Reply;
+use pile::job::Memories;
 use replies::example::first_job;
 use std::alloc::{AllocError, Global};
 use std::process::Abort;
@@ -111,4 +114,11 @@ fn the_most_lines(rt: HostRuntime) -> Result<(), Fail> {
 fn the_example(rt: HostRuntime) {
     let example = first_job();
     assert!(rt; holds(example.job, example.replies));
+}
+
+#[test]
+fn the_last_reply(rt: HostRuntime) {
+    let mut memories = Memories::zeroed();
+    let last = last_reply(memories.pile(), first_job().job);
+    assert!(rt; matches!(last, Some(Reply::Shown(1, 0x1234_0000))));
 }
