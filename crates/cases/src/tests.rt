@@ -69,6 +69,34 @@ fn words_drawn_by_lot(rt: HostRuntime) {
     hold(&rt, "programs", programs::cases());
 }
 
+#[test]
+fn as_many_cases_as_there_are(rt: HostRuntime) {
+    let tables = [
+        reading::cases(),
+        calls::cases(),
+        cycles::cases(),
+        arithmetic::cases(),
+        products::cases(),
+        branches::cases(),
+        jumps::cases(),
+        system::cases(),
+        user::cases(),
+        memory::cases(),
+        misplaced::cases(),
+        user_memory::cases(),
+        interrupts::cases(),
+        handlers::cases(),
+        resets::cases(),
+        errors::cases(),
+        programs::cases(),
+    ];
+    let mut count = 0usize;
+    for table in tables {
+        count = count.saturating_add(table.len());
+    }
+    assert_eq!(rt; count, 342);
+}
+
 /// A start, one cycle, and a field that fills the job up to a length.
 fn long_job(heap: Global, length: usize) -> Result<Vec<u8>, AllocError> {
     let mut job = Vec::new(heap);
