@@ -5,7 +5,7 @@ use Rattle.std.proofs.lemmas.Bool.{false≢true}
 use Rattle.std.proofs.lemmas.List.{append-nil, take_all}
 use Rattle.std.proofs.Math.Seq.{take-append_seam}
 use Rattle.std.specs.Io.KnownBytes.{Appends, Consumes, IsAtEnd}
-use Rattle.runjob.specs.Run.{AppendsFront, Known, Running, StopsReading, TakesJob, TakesSome, Writing}
+use Rattle.runjob.specs.Run.{AppendsFront, Known, Running, StopsReading, TakesBytes, TakesJob, Writing}
 use Rattle.runjob.specs.declared.failure.Failure.{Failure}
 use Rattle.runjob.specs.declared.failure.Failure.TheVariants.{Memory, Write}
 use Rattle.std.specs.declared.io.Error.{Error}
@@ -54,7 +54,7 @@ Consumes-none (Some ys) (Some zs) (Some ws) bs xs n e h k =
 
 -- reading stopped since there was no memory
 pub StopsReading-memory : {A : Type 0} (P : A → Type 0) (o p : Known) (r : Result A Failure)
-    → IsErrAnd r (λ f. f ≡ Memory) → TakesSome o p → MatchResult r P (StopsReading o p)
+    → IsErrAnd r (λ f. f ≡ Memory) → TakesBytes o p → MatchResult r P (StopsReading o p)
 StopsReading-memory P o p (Ok x) h k = absurd h
 StopsReading-memory P o p (Err f) h k = rw h k
 

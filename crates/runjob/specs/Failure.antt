@@ -1,5 +1,7 @@
 -- What the program says where it fails. Assumes nothing.
-use Rattle.std.specs.Prelude.{ℕ, List, codes}
+use Rattle.std.specs.Prelude.{ℕ, List, codes, Some, None}
+use Rattle.anyhow.specs.Error.{IsContextOn, IsMadeOf}
+use Rattle.anyhow.specs.declared.error.Error.{Error}
 use Rattle.runjob.specs.declared.failure.Failure.{Failure}
 use Rattle.runjob.specs.declared.failure.Failure.TheVariants.{Memory, Read, Write}
 
@@ -8,3 +10,9 @@ abbrev pub text_of : Failure → List ℕ
 text_of Memory = codes "out of memory"
 text_of (Read e) = codes "cannot read the job"
 text_of (Write e) = codes "cannot write the replies"
+
+-- an error with the failure's text, alone, or over one cause where the system refused, whose words are the system's to choose
+abbrev pub Tells : Failure → Error → Type 0
+Tells Memory told = IsMadeOf (Some (text_of Memory)) told
+Tells (Read e) told = IsContextOn (IsMadeOf None) (Some (text_of (Read e))) told
+Tells (Write e) told = IsContextOn (IsMadeOf None) (Some (text_of (Write e))) told

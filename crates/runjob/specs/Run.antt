@@ -1,5 +1,5 @@
 -- What a run does to its reader and its writer, where their bytes are known. Assumes nothing.
-use Rattle.std.specs.Prelude.{◌≡◌, ℕ, ◌≤◌, List, ◌++◌, length, take, Ok, Err, Option, Result, IfSome}
+use Rattle.std.specs.Prelude.{◌≡◌, ℕ, ◌<◌, ◌≤◌, List, ◌++◌, length, take, Ok, Err, Option, Result, IfSome}
 use Rattle.std.specs.Io.KnownBytes.{Appends, Consumes, Keeps}
 use Rattle.replies.specs.Replies.{answer_to, enough}
 use Rattle.runjob.specs.declared.failure.Failure.{Failure}
@@ -17,13 +17,17 @@ TakesJob old new job = Consumes old new job × IfSome old (λ bytes. job ≡ tak
 abbrev pub TakesSome : Known → Known → Type 0
 TakesSome old new = (taken : List ℕ) × Consumes old new taken × (length taken ≤ enough)
 
+-- no more than a job was taken, and not nothing: memory is wanted for bytes that were read
+abbrev pub TakesBytes : Known → Known → Type 0
+TakesBytes old new = (taken : List ℕ) × Consumes old new taken × (0 < length taken) × (length taken ≤ enough)
+
 -- a front of some bytes was appended
 abbrev pub AppendsFront : Known → Known → List ℕ → Type 0
 AppendsFront old new bytes = (front rest : List ℕ) × (bytes ≡ front ++ rest) × Appends old new front
 
 -- what a failure to read leaves; writing fails elsewhere
 abbrev pub StopsReading : Known → Known → Failure → Type 0
-StopsReading old new Memory = TakesSome old new
+StopsReading old new Memory = TakesBytes old new
 StopsReading old new (Read e) = TakesSome old new
 StopsReading old new (Write e) = ⊥
 
@@ -39,4 +43,4 @@ module _ (r r' w w' : Known) where
   Running (Ok u) = (job : List ℕ) × TakesJob r r' job × Appends w w' (answer_to job)
   Running (Err (Write e)) = (job : List ℕ) × TakesJob r r' job × AppendsFront w w' (answer_to job)
   Running (Err (Read e)) = TakesSome r r' × Keeps w w'
-  Running (Err Memory) = TakesSome r r' × Keeps w w'
+  Running (Err Memory) = TakesBytes r r' × Keeps w w'

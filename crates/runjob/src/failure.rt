@@ -1,8 +1,7 @@
 //! Why the program can fail: never for what a job says.
 
 ghost use Rattle.std.specs.Prelude.{◌≡◌, Some};
-ghost use Rattle.anyhow.specs.Error.{HasMessage};
-ghost use Rattle.runjob.specs.Failure.{text_of};
+ghost use Rattle.runjob.specs.Failure.{Tells, text_of};
 ghost use Rattle.runjob.specs.declared.failure.Failure.TheVariants.{Memory};
 
 use std::alloc::AllocError;
@@ -42,7 +41,7 @@ impl From<AllocError> for Failure {
 impl Failure {
     /// The failure as the program tells it, with the system's own words for why.
     pub fn told(self) -> anyhow::Error
-        ensures { HasMessage (Some (text_of self)) result }
+        ensures { Tells self result }
     {
         match self {
             Failure::Memory => anyhow::Error::msg(self),

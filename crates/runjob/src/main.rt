@@ -6,6 +6,8 @@ mod failure;
 mod input;
 mod output;
 mod run;
+#[cfg(test)]
+mod tests;
 
 use failure::Failure;
 use std::io;

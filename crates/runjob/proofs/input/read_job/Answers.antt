@@ -26,6 +26,13 @@ returns-in_err-extend_from_slice-in-Ok-clause-job g c =
       omega (
         arith,
         length-append c.loop-chunk.job.items chunk,
+        length-take c.in-Ok.count c.read_some.new.chunk,
+        c.in-Ok.ensures.bound,
+        c.in-Ok.count-test,
+      ),
+      omega (
+        arith,
+        length-append c.loop-chunk.job.items chunk,
         c.in-Ok.ensures.bound,
         c.read_some.auto.chunk,
         length-take c.min-room.result c.loop-chunk.chunk,
