@@ -11,7 +11,7 @@ text_of Memory = codes "out of memory"
 text_of (Read e) = codes "cannot read the job"
 text_of (Write e) = codes "cannot write the replies"
 
--- an error with the failure's text, alone, or over one cause where the system refused, whose words are the system's to choose
+-- the failure's text alone, or, where the system refused, over one cause, whose words are the system's to choose
 abbrev pub Tells : Failure → Error → Type 0
 Tells Memory told = IsMadeOf (Some (text_of Memory)) told
 Tells (Read e) told = IsContextOn (IsMadeOf None) (Some (text_of (Read e))) told
