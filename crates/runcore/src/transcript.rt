@@ -61,7 +61,7 @@ impl fmt::Display for Loaded {
     }
 }
 
-/// A call as it is printed; the program shows a snapshot by the registers that changed.
+/// A call as it is printed.
 #[derive(Clone, Copy)]
 struct Asked(Call);
 
@@ -106,7 +106,7 @@ impl fmt::Display for Counted {
     }
 }
 
-/// A reply as it is printed; a snapshot shows in what changed.
+/// A reply as it is printed.
 #[derive(Clone, Copy)]
 struct Answered(Result<Reply, Denial>);
 
@@ -209,17 +209,18 @@ fn compare(
     Ok(())
 }
 
-/// Every call with its reply, and the registers that it changed.
+/// Every call with its reply. The first snapshot is taken; each later one shows the registers that changed since.
 pub(crate) fn performed(rt: &impl Print, exchanges: &[Exchange]) -> anyhow::Result<()> {
-    let mut before = [0; REGISTERS];
+    let mut before = None;
     for exchange in exchanges {
         let call = exchange.call;
         let reply = exchange.reply.context("a call was not made")?;
+        match (before, reply) {
+            (Some(before), Ok(Reply::Snapshot(after))) => compare(rt, &before, &after)?,
+            _ => println!(rt; "{}", Made { call, reply })?,
+        }
         if let Ok(Reply::Snapshot(after)) = reply {
-            compare(rt, &before, &after)?;
-            before = after;
-        } else {
-            println!(rt; "{}", Made { call, reply })?;
+            before = Some(after);
         }
     }
     Ok(())
