@@ -1,5 +1,6 @@
 -- Known bytes, taken and appended one part after the other. Assumes nothing.
-use Rattle.std.proofs.Common.{◌≡◌, ◌≤◌, length, take, ℕ, List, ◌++◌, Some, None, ap, sym, ◌∙◌, append_assoc, Ok, Err, Result, IsErr, MatchResult, IfSome, OnOk}
+use Rattle.std.proofs.Common.{◌≡◌, ◌≤◌, length, take, ℕ, List, ◌++◌, Some, None, ap, sym, ◌∙◌, append_assoc}
+use Rattle.std.proofs.Common.{Ok, Err, Result, IsErr, MatchResult, IfSome}
 use Rattle.std.specs.Result.{IsErrAnd}
 use Rattle.std.proofs.lemmas.Bool.{false≢true}
 use Rattle.std.proofs.lemmas.List.{append-nil, take_all}
@@ -9,7 +10,7 @@ use Rattle.runjob.specs.Run.{AppendsFront, Known, Running, StopsReading, TakesBy
 use Rattle.runjob.specs.declared.failure.Failure.{Failure}
 use Rattle.runjob.specs.declared.failure.Failure.TheVariants.{Memory, Write}
 use Rattle.std.specs.declared.io.Error.{Error}
-use Rattle.replies.specs.Replies.{all_written, answer_to, enough, replies_to}
+use Rattle.replies.specs.Replies.{answer_to, enough, replies_to}
 
 pub Appends-more : (o p q : Known) (a b : List ℕ) → Appends o p a → Appends p q b → Appends o q (a ++ b)
 Appends-more None p q a b h k = tt
@@ -29,19 +30,29 @@ Writing-stopped o p bs (Ok u) e h = absurd (false≢true e)
 Writing-stopped o p bs (Err e) k h = h
 
 -- where the reader has no more, all of its bytes were taken
-pub TakesJob-end : (o p : Known) (job : List ℕ) → Consumes o p job → IsAtEnd p → length job ≤ enough → TakesJob o p job
-TakesJob-end None p job h e l = (tt, tt)
-TakesJob-end (Some xs) None job h e l = absurd h
-TakesJob-end (Some xs) (Some ys) job h e l =
+pub first-end : (o p : Known) (job : List ℕ)
+    → Consumes o p job → IsAtEnd p → length job ≤ enough → IfSome o (λ bytes. job ≡ take enough bytes)
+first-end None p job h e l = tt
+first-end (Some xs) None job h e l = absurd h
+first-end (Some xs) (Some ys) job h e l =
     let all : xs ≡ job = h ∙ ap (λ l. job ++ l) e ∙ append-nil job in
-    (h, sym (ap (λ l. take enough l) all ∙ take_all enough job l))
+    sym (ap (λ l. take enough l) all ∙ take_all enough job l)
 
 -- where as many as may be taken were taken, they are the first of them
-pub TakesJob-full : (o p : Known) (job : List ℕ) → Consumes o p job → length job ≡ enough → TakesJob o p job
-TakesJob-full None p job h e = (tt, tt)
-TakesJob-full (Some xs) None job h e = absurd h
-TakesJob-full (Some xs) (Some ys) job h e =
-    (h, sym (ap (λ l. take enough l) h ∙ ap (λ n. take n (job ++ ys)) (sym e) ∙ take-append_seam job ys))
+pub first-full : (o p : Known) (job : List ℕ)
+    → Consumes o p job → length job ≡ enough → IfSome o (λ bytes. job ≡ take enough bytes)
+first-full None p job h e = tt
+first-full (Some xs) None job h e = absurd h
+first-full (Some xs) (Some ys) job h e =
+    sym (ap (λ l. take enough l) h ∙ ap (λ n. take n (job ++ ys)) (sym e) ∙ take-append_seam job ys)
+
+-- the first n bytes are a job, where so many tell their replies
+pub TakesJob-first : (o p : Known) (n : ℕ) (job : List ℕ)
+    → n ≡ enough → ((bytes : List ℕ) → replies_to (take n bytes) ≡ replies_to bytes)
+    → Consumes o p job → IfSome o (λ bytes. job ≡ take enough bytes) → TakesJob o p job
+TakesJob-first None p n job e tells h first = (h, tt)
+TakesJob-first (Some bytes) p n job e tells h first =
+    (h, (first, ap replies_to (first ∙ ap (λ k. take k bytes) (sym e)) ∙ tells bytes))
 
 -- a read that took nothing
 pub Consumes-none : (o p q : Known) (bs xs : List ℕ) (n : ℕ)
@@ -58,12 +69,6 @@ pub StopsReading-memory : {A : Type 0} (P : A → Type 0) (o p : Known) (r : Res
 StopsReading-memory P o p (Ok x) h k = absurd h
 StopsReading-memory P o p (Err f) h k = rw h k
 
--- a front of the known bytes, where f tells nothing of what is behind it
-pub front : {A : Type 0} (f : List ℕ → A) (o : Known) (n m : ℕ) (job : List ℕ)
-    → n ≡ m → ((bytes : List ℕ) → f (take n bytes) ≡ f bytes) → IfSome o (λ bytes. job ≡ take m bytes) → IfSome o (λ bytes. f job ≡ f bytes)
-front f None n m job e tells h = h
-front f (Some bytes) n m job e tells h = ap f (h ∙ ap (λ k. take k bytes) (sym e)) ∙ tells bytes
-
 -- a job was read, and its answer was written as far as it was
 pub Running-written : (r r' w w' : Known) (job bs : List ℕ) (x : Result (Unit {0}) Error) (y : Result (Unit {0}) Failure)
     → TakesJob r r' job → Writing w w' bs x → bs ≡ answer_to job
@@ -71,13 +76,3 @@ pub Running-written : (r r' w w' : Known) (job bs : List ℕ) (x : Result (Unit 
 Running-written r r' w w' job bs (Ok u) y h a e k = rw k (job, h, rw (← e) a)
 Running-written r r' w w' job bs (Err e) (Ok v) h a s k = absurd k
 Running-written r r' w w' job bs (Err e) (Err f) h a s k = rw k (job, h, rw (← s) a)
-
--- the answer to a job is that to all bytes of the reader
-pub Running-all : (r w w' : Known) (job bs : List ℕ) (x : Result (Unit {0}) Error) (y : Result (Unit {0}) Failure)
-    → Writing w w' bs x → bs ≡ answer_to job → IfSome r (λ bytes. replies_to job ≡ replies_to bytes)
-    → MatchResult x (λ u. y ≡ Ok u) (λ e. IsErrAnd y (λ f. f ≡ Write e))
-    → OnOk y (IfSome r (λ bytes. Appends w w' (answer_to bytes)))
-Running-all None w w' job bs x (Ok v) a e s k = tt
-Running-all r w w' job bs x (Err f) a e s k = tt
-Running-all (Some bytes) w w' job bs (Ok u) (Ok v) a e s k = rw (← ap all_written s, ← e) a
-Running-all (Some bytes) w w' job bs (Err g) (Ok v) a e s k = absurd k

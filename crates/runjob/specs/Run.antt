@@ -1,7 +1,7 @@
 -- What a run does to its reader and its writer, where their bytes are known. Assumes nothing.
 use Rattle.std.specs.Prelude.{◌≡◌, ℕ, ◌<◌, ◌≤◌, List, ◌++◌, length, take, Ok, Err, Option, Result, IfSome}
 use Rattle.std.specs.Io.KnownBytes.{Appends, Consumes, Keeps}
-use Rattle.replies.specs.Replies.{answer_to, enough}
+use Rattle.replies.specs.Replies.{answer_to, enough, replies_to}
 use Rattle.runjob.specs.declared.failure.Failure.{Failure}
 use Rattle.runjob.specs.declared.failure.Failure.TheVariants.{Memory, Read, Write}
 
@@ -9,9 +9,10 @@ use Rattle.runjob.specs.declared.failure.Failure.TheVariants.{Memory, Read, Writ
 abbrev pub Known : Type 0
 Known = Option (List ℕ)
 
--- a job was taken: the first bytes of a reader, so many that they tell their replies, and no more
+-- a job was taken: the first bytes of a reader and no more, and their replies are those to all of its bytes
 abbrev pub TakesJob : Known → Known → List ℕ → Type 0
-TakesJob old new job = Consumes old new job × IfSome old (λ bytes. job ≡ take enough bytes)
+TakesJob old new job = Consumes old new job
+    × IfSome old (λ bytes. (job ≡ take enough bytes) × (replies_to job ≡ replies_to bytes))
 
 -- no more than a job was taken
 abbrev pub TakesSome : Known → Known → Type 0

@@ -9,7 +9,7 @@ use std::{fmt, io};
 
 #[derive(Drop)]
 pub enum Failure {
-    /// There is no memory for the job.
+    /// There is no memory for the bytes that were read.
     Memory,
     /// The job cannot be read.
     Read(io::Error),

@@ -1,9 +1,8 @@
 //! Reading a job.
 
-ghost use Rattle.std.specs.Prelude.{◌≡◌, IfOk, IfSome, MatchResult};
+ghost use Rattle.std.specs.Prelude.{MatchResult};
 ghost use Rattle.std.specs.Io.{ReadsAtMost};
 ghost use Rattle.std.specs.Io.KnownBytes.{ReadConsumes};
-ghost use Rattle.replies.specs.Replies.{replies_to};
 ghost use Rattle.runjob.specs.Run.{StopsReading, TakesJob};
 
 use super::RETRIES;
@@ -32,11 +31,9 @@ fn read_some<R: Read>(reader: &mut R, chunk: &mut [u8]) -> io::Result<usize>
 
 /// The bytes that a reader gives, or as many of them as tell their replies; no more are read.
 pub fn read_job<R: Read>(heap: Global, reader: &mut R) -> Result<Vec<u8>, Failure>
-    ensures job { MatchResult result
+    ensures { MatchResult result
         (λ job. TakesJob (R.remaining reader.old) (R.remaining reader.new) job.items)
         (StopsReading (R.remaining reader.old) (R.remaining reader.new)) }
-    ensures replies { IfOk result
-        (λ job. IfSome (R.remaining reader.old) (λ bytes. replies_to job.items ≡ replies_to bytes)) }
 {
     let mut job = Vec::new(heap);
     let mut chunk = [0u8; CHUNK];

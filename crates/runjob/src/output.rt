@@ -2,8 +2,7 @@
 
 ghost use Rattle.std.specs.Io.{WritesAtMost};
 ghost use Rattle.std.specs.Io.KnownBytes.{WriteAppends};
-ghost use Rattle.replies.specs.Replies.{to_come};
-ghost use Rattle.replies.specs.Replies.{all_written};
+ghost use Rattle.replies.specs.Replies.{all_written, to_come};
 ghost use Rattle.runjob.specs.Run.{Writing};
 
 use super::RETRIES;

@@ -1,8 +1,5 @@
 //! Running a job.
 
-ghost use Rattle.std.specs.Prelude.{◌≡◌, OnOk, IfSome};
-ghost use Rattle.std.specs.Io.KnownBytes.{Appends};
-ghost use Rattle.replies.specs.Replies.{answer_to};
 ghost use Rattle.runjob.specs.Run.{Running};
 
 use super::failure::Failure;
@@ -15,10 +12,8 @@ use std::io::{Read, Write};
 
 /// Reads a job, and writes the replies to it.
 pub fn run<R: Read, W: Write>(heap: Global, reader: &mut R, writer: &mut W) -> Result<(), Failure>
-    ensures run { Running (R.remaining reader.old) (R.remaining reader.new)
+    ensures { Running (R.remaining reader.old) (R.remaining reader.new)
         (W.contents writer.old) (W.contents writer.new) result }
-    ensures all { OnOk result (IfSome (R.remaining reader.old)
-        (λ bytes. Appends (W.contents writer.old) (W.contents writer.new) (answer_to bytes))) }
 {
     let job = read_job(heap, reader)?;
     let mut memories = Memories::zeroed();
