@@ -1,6 +1,7 @@
 //! A request that is waited out.
 
 ghost use Rattle.std.specs.Prelude.{◌≡◌};
+ghost use Rattle.bus.specs.Decided.{SettlesAsDecided};
 ghost use Rattle.bus.specs.Settled.{Settles, ending};
 
 use super::memory::Bus;
@@ -43,4 +44,11 @@ pub fn settle<B: Bus>(bus: &mut B, request: Request) -> Settled
         }
     }
     unreachable()
+}
+
+/// Where a memory's meaning decides how it goes on, it decides what waiting out leaves. A proof and no code: who calls it has
+/// its contract.
+pub fn settles_as_decided<B: Bus>()
+    ensures { SettlesAsDecided B.Bus.means B.Bus.steps }
+{
 }

@@ -11,8 +11,9 @@ use Rattle.bus.specs.declared.request.Request.{Request}
 use Rattle.book.specs.Instant.{StillKeeps, World, asked, changed, still, tick}
 use Rattle.microprogram.specs.Cycle.{advanced, worked}
 use Rattle.rows.specs.declared.row.Row.{Row}
-use Rattle.r3000.specs.Cycle.{Asks, Cycle, freezes}
+use Rattle.r3000.specs.Cycle.{Asks, Cycle, asked_by, freezes}
 use Rattle.r3000.specs.Machine.{Machine, hand}
+use Rattle.r3000.proofs.Parts.{state_of}
 use Rattle.r3000.specs.Promise.{refusals}
 
 -- an answer that is no wait was not stalled, and a wait was
@@ -83,16 +84,16 @@ module _ {S : Type 0} {means : S → Meaning} {steps : S → Request → Answer 
 
   -- processor and bytes of a core
   abbrev pub world : Machine S → World
-  world c = record { state = c.state; bytes = (means c.pile).byte }
+  world c = record { state = c.processor.state; bytes = (means c.pile).byte }
 
-  pub one_tick : (c d : Machine S) → Cycle steps c false d → world d ≡ tick (refusals (means c.pile)) c.lines (world c)
+  pub one_tick : (c d : Machine S) → Cycle steps c false d → world d ≡ tick (refusals (means c.pile)) c.processor.lines (world c)
   unfolding tick
   one_tick c d h =
-      let w : Row = hand c.state in
-      ap₂ (λ s b. record { state = s; bytes = b }) (h.state ∙ ap (λ a. advanced w c.lines (worked w c.state) a c.state) now.0) now.1
+      let w : Row = hand c.processor.state in
+      ap₂ (λ s b. record { state = s; bytes = b }) (state_of h ∙ ap (λ a. advanced w c.processor.lines (worked w c.processor.state) a c.processor.state) now.0) now.1
     where
-      now : (h.answer ≡ option_map (answer (stilled (means c.pile))) (asked (hand c.state) c.state)) × ((means d.pile).byte ≡ changed (stilled (means c.pile)) (asked (hand c.state) c.state))
-      now = unfrozen c.pile d.pile (asked (hand c.state) c.state) h.answer h.asks h.freeze
+      now : (h.answer ≡ option_map (answer (stilled (means c.pile))) (asked_by c)) × ((means d.pile).byte ≡ changed (stilled (means c.pile)) (asked_by c))
+      now = unfrozen c.pile d.pile (asked_by c) h.answer h.asks h.freeze
 
   pub no_tick : (c d : Machine S) → Cycle steps c true d → world d ≡ world c
-  no_tick c d h = ap₂ (λ s b. record { state = s; bytes = b }) h.state (frozen c.pile d.pile (asked (hand c.state) c.state) h.answer h.asks h.freeze).0
+  no_tick c d h = ap₂ (λ s b. record { state = s; bytes = b }) (state_of h) (frozen c.pile d.pile (asked_by c) h.answer h.asks h.freeze).0

@@ -23,9 +23,9 @@ module _ {S : Type 0} (means : S → Meaning) (steps : S → Request → Answer 
   cycles (suc n) c d h = (h.0, h.1, cycles n c h.0 h.2, h.3, follows d h.4)
 
   pub runs : (n : ℕ) (c d : Machine S) (q : Result Report Denial) → Runs steps says n c q d → Runs steps tells n c q d
-  runs n c d q h = by (check_run n c.report) h
+  runs n c d q h = by (check_run n c.observed.report) h
     where
-      by : (o : Result (Unit {0}) Denial) → Checked o c q d (Cycles steps says n c d × (q ≡ Ok d.report)) → Checked o c q d (Cycles steps tells n c d × (q ≡ Ok d.report))
+      by : (o : Result (Unit {0}) Denial) → Checked o c q d (Cycles steps says n c d × (q ≡ Ok d.observed.report)) → Checked o c q d (Cycles steps tells n c d × (q ≡ Ok d.observed.report))
       by (Err e) h = h
       by (Ok _) h = (cycles n c d h.0, h.1)
 

@@ -36,16 +36,16 @@ module _ {S : Type 0} {means : S → Meaning} {steps : S → Request → Answer 
       ((h.0, h.1, before.0, h.3, here), here)
 
   pub clocks : (c d : Machine S) (q : Result Clocked Denial) → Clocks steps c q d → Upholds means steps c d
-  clocks c d q h = by (check_cycles 1 c.report) h
+  clocks c d q h = by (check_cycles 1 c.observed.report) h
     where
-      by : (o : Result (Unit {0}) Denial) → Checked o c q d ((frozen : Bool) × Cycle steps c frozen d × (q ≡ Ok (record { frozen = frozen; report = d.report }))) → Upholds means steps c d
+      by : (o : Result (Unit {0}) Denial) → Checked o c q d ((frozen : Bool) × Cycle steps c frozen d × (q ≡ Ok (record { frozen = frozen; report = d.observed.report }))) → Upholds means steps c d
       by (Err e) h = stays c d h.1
       by (Ok _) h = upholds c d (λ start r. Reached.cycle c d h.0 r h.1)
 
   pub runs : (n : ℕ) (c d : Machine S) (q : Result Report Denial) → Runs steps Anything n c q d → Runs steps (Upholds means steps c) n c q d × Upholds means steps c d
-  runs n c d q h = by (check_run n c.report) h
+  runs n c d q h = by (check_run n c.observed.report) h
     where
-      by : (o : Result (Unit {0}) Denial) → Checked o c q d (Cycles steps Anything n c d × (q ≡ Ok d.report)) → Checked o c q d (Cycles steps (Upholds means steps c) n c d × (q ≡ Ok d.report)) × Upholds means steps c d
+      by : (o : Result (Unit {0}) Denial) → Checked o c q d (Cycles steps Anything n c d × (q ≡ Ok d.observed.report)) → Checked o c q d (Cycles steps (Upholds means steps c) n c d × (q ≡ Ok d.observed.report)) × Upholds means steps c d
       by (Err e) h = (h, stays c d h.1)
       by (Ok _) h = let all : Cycles steps (Upholds means steps c) n c d × Upholds means steps c d = cycles n c d h.0 in ((all.0, h.1), all.1)
 

@@ -24,18 +24,23 @@ abbrev pub check_run : ℕ → Report → Result (Unit {0}) Denial
 check_run n report = cond (n == 0 || nat_lt max_run n) (Err denial.Range) (check_cycles n report)
 
 -- a call that its check denies replies the denial and leaves the core as it is; another does what is said of it
-abbrev pub Checked : {S T : Type 0} → Result (Unit {0}) Denial → Machine S → Result T Denial → Machine S → Type 0 → Type 0
+abbrev pub Checked : {S T : Type 0} → Result (Unit {0}) Denial → Machine S → Result T Denial → Machine S → Type 0
+    → Type 0
 Checked (Err e) c r d does = (r ≡ Err e) × (d ≡ c)
 Checked (Ok _) c r d does = does
 
 -- clock: one cycle
-abbrev pub Clocks : {S : Type 0} → (S → Request → Answer → S → Type 0) → Machine S → Result Clocked Denial → Machine S → Type 0
+abbrev pub Clocks : {S : Type 0} → (S → Request → Answer → S → Type 0) → Machine S → Result Clocked Denial → Machine S
+    → Type 0
 Clocks steps c r d =
-    Checked (check_cycles 1 c.report) c r d ((frozen : Bool) × Cycle steps c frozen d × (r ≡ Ok (record { frozen = frozen; report = d.report })))
+    Checked (check_cycles 1 c.observed.report) c r d
+    ((frozen : Bool) × Cycle steps c frozen d × (r ≡ Ok (record { frozen = frozen; report = d.observed.report })))
 
 -- run: so many cycles, one after another, and what is said of the core after each of them
-abbrev pub Runs : {S : Type 0} → (S → Request → Answer → S → Type 0) → (Machine S → Type 0) → ℕ → Machine S → Result Report Denial → Machine S → Type 0
-Runs steps says n c r d = Checked (check_run n c.report) c r d (Cycles steps says n c d × (r ≡ Ok d.report))
+abbrev pub Runs : {S : Type 0} → (S → Request → Answer → S → Type 0) → (Machine S → Type 0)
+    → ℕ → Machine S → Result Report Denial → Machine S → Type 0
+Runs steps says n c r d =
+    Checked (check_run n c.observed.report) c r d (Cycles steps says n c d × (r ≡ Ok d.observed.report))
 
 -- lines: bits 0 to 5 are IT0 to IT5, bit 6 is RST
 abbrev pub lines_reply : ℕ → Result (Unit {0}) Denial

@@ -16,7 +16,12 @@ pile_of c = c.pile
 
 -- a processor on a pile, as the rules see it, with what it has behind it
 abbrev pub made : {B : Type 0} → History → Processor → B → Machine B
-made h p pile = record { state = seen p.chip; lines = p.lines; report = p.counts.report; pile = pile; history = h }
+made h p pile =
+    record {
+      processor = record { state = seen p.chip; lines = p.lines };
+      pile = pile;
+      observed = record { report = p.counts.report; history = h };
+    }
 
 -- a core, so seen
 abbrev pub machine : {B : Type 0} → History → Core B → Machine B

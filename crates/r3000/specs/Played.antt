@@ -27,21 +27,23 @@ module _ {S : Type 0} (means : S → Meaning) (steps : S → Request → Answer 
   Called c call.Clock r d = (q : Result Clocked Denial) × (r ≡ replied reply.Clock q) × Clocks steps c q d
   Called c (call.Run n) r d = (q : Result Report Denial) × (r ≡ replied reply.Run q) × Runs steps says n c q d
   Called c (call.Lines n) r d = (r ≡ replied (λ set. reply.Lines) (lines_reply n)) × (d ≡ lines_set n c)
-  Called c (call.Register n) r d = (r ≡ replied reply.Register (register_reply n c.state)) × (d ≡ c)
-  Called c call.Snapshot r d = (r ≡ Ok (reply.Snapshot (numbered c.state))) × (d ≡ c)
-  Called c (call.Ledger n) r d = (r ≡ replied reply.Ledger (ledger_reply n c.state)) × (d ≡ c)
+  Called c (call.Register n) r d = (r ≡ replied reply.Register (register_reply n c.processor.state)) × (d ≡ c)
+  Called c call.Snapshot r d = (r ≡ Ok (reply.Snapshot (numbered c.processor.state))) × (d ≡ c)
+  Called c (call.Ledger n) r d = (r ≡ replied reply.Ledger (ledger_reply n c.processor.state)) × (d ≡ c)
   Called c (call.Look address) r d = (r ≡ replied reply.Look (look_reply (means c.pile) address)) × (d ≡ c)
 
-  -- the calls of a list one after another: each stays as it was and has its own reply, and what is said of the core after each
-  -- of them and after each cycle
+  -- the calls of a list one after another: each stays as it was and has its own reply, and what is said of the core after
+  -- each of them and after each cycle
   abbrev pub Played : Machine S → List Exchange → List Exchange → Machine S → Type 0
   Played c [] [] d = d ≡ c
   Played c [] (y ∷ ys) d = ⊥
   Played c (x ∷ xs) [] d = ⊥
   Played c (x ∷ xs) (y ∷ ys) d =
-      (b : Machine S) × (r : Result Reply Denial) × (y ≡ record { call = x.call; reply = Some r }) × Called c x.call r b × says b × Played b xs ys d
+      (b : Machine S) × (r : Result Reply Denial) × (y ≡ record { call = x.call; reply = Some r }) × Called c x.call r b
+      × says b × Played b xs ys d
 
 -- calls on a core that was built on a pile: at power-up, after each call, and after each cycle inside a run, the promise holds
-pub record Performed {S : Type 0} (means : S → Meaning) (steps : S → Request → Answer → S → Type 0) (start : S) (before after : List Exchange) (c : Machine S) : Type 0 where
+pub record Performed {S : Type 0} (means : S → Meaning) (steps : S → Request → Answer → S → Type 0)
+    (start : S) (before after : List Exchange) (c : Machine S) : Type 0 where
   pub begun : Promised means steps start (built start)
   pub played : Played means steps (Promised means steps start) (built start) before after c

@@ -35,7 +35,8 @@ pub record Agrees (b : Book) (s : State) (m : Meaning) : Type 0 where
   pub ledger : s.ledger ≡ b.ledger
   pub bytes : (address : ℕ) → m.byte address ≡ b.bytes address
 
--- the granted cycle with which the next boundary comes at the latest, counted from the one before or from power-up: 7 + 2 W
+-- the granted cycle with which the next boundary comes at the latest, counted from the one before or from power-up:
+-- 7 + 2 W
 abbrev pub latest : Meaning → ℕ
 latest m = most_rows + most_accesses * m.longest
 
@@ -46,16 +47,18 @@ Up s f = s.flag ≡ Some f
 -- the promise, of a core that began on a pile
 pub record Promise {S : Type 0} (means : S → Meaning) (start : S) (c : Machine S) : Type 0 where
   -- the history has a step for each boundary that is reported
-  pub boundaries : length c.history.lines ≡ c.report.boundaries
+  pub boundaries : length c.observed.history.lines ≡ c.observed.report.boundaries
   -- agreement: at each boundary, where the place is 0
-  pub agreement : c.report.place ≡ 0 → Agrees (book_after (means start) c.history.lines) c.state (means c.pile)
+  pub agreement : c.observed.report.place ≡ 0
+      → Agrees (book_after (means start) c.observed.history.lines) c.processor.state (means c.pile)
   -- sum
-  pub sum : c.report.cycles ≡ c.report.frozen + lengths (means start) c.history.lines + c.report.place
+  pub sum : c.observed.report.cycles
+      ≡ c.observed.report.frozen + lengths (means start) c.observed.history.lines + c.observed.report.place
   -- promptness: the latest granted cycle after a boundary, or after power-up, is not made without a boundary
-  pub promptness : c.history.since < latest (means start)
+  pub promptness : c.observed.history.since < latest (means start)
   -- register 0 is zero, and at most one flag is up (of which the flag's type leaves no more)
-  pub register_0 : reg c.state.regs 0 ≡ 0
-  pub one_flag : (f g : Fault) → Up c.state f → Up c.state g → f ≡ g
+  pub register_0 : reg c.processor.state.regs 0 ≡ 0
+  pub one_flag : (f g : Fault) → Up c.processor.state f → Up c.processor.state g → f ≡ g
 
 module _ {S : Type 0} (means : S → Meaning) (steps : S → Request → Answer → S → Type 0) where
   -- every core that is reached keeps it
@@ -67,11 +70,12 @@ module _ {S : Type 0} (means : S → Meaning) (steps : S → Request → Answer 
     pub reached : Reached steps start c
     pub promise : Promise means start c
 
-  -- from c to d the promise is upheld: on whatever pile c can be reached, d can be reached on that pile, and the promise holds of d
+  -- from c to d the promise is upheld: on whatever pile c can be reached, d can be reached on that pile, and the promise
+  -- holds of d
   abbrev pub Upholds : Machine S → Machine S → Type 0
   Upholds c d = (start : S) → Reached steps start c → Promised start d
 
-  -- what a call does: whatever the core has behind it, R holds of the core before and the core after, which has that behind it
-  -- too, and the promise is upheld
+  -- what a call does: whatever the core has behind it, R holds of the core before and the core after, which has that behind
+  -- it too, and the promise is upheld
   abbrev pub Happens : (Machine S → Machine S → Type 0) → Core S → Core S → Type 0
   Happens R c d = (h : History) → (k : History) × R (machine h c) (machine k d) × Upholds (machine h c) (machine k d)

@@ -8,6 +8,7 @@ use Rattle.r3000.specs.Counts.{counted}
 use Rattle.r3000.specs.Cycle.{Cycles}
 use Rattle.r3000.specs.Machine.{Machine, fresh, hand}
 use Rattle.r3000.specs.declared.report.Report.{Report}
+use Rattle.r3000.proofs.Parts.{report_of}
 use Rattle.r3000.proofs.Upheld.{Anything, runs, stays}
 use Rattle.r3000.proofs.cpu.Core.run.Goals as goal
 
@@ -17,10 +18,10 @@ one_more true last n = refl
 one_more false true n = refl
 one_more false false n = refl
 
-as_many : {S : Type 0} (steps : S → Request → Answer → S → Type 0) (says : Machine S → Type 0) (n : ℕ) (c d : Machine S) → Cycles steps says n c d → d.report.cycles ≡ c.report.cycles + n
-as_many steps says zero c d h = omega (arith, ap (λ m. m.report.cycles) h)
+as_many : {S : Type 0} (steps : S → Request → Answer → S → Type 0) (says : Machine S → Type 0) (n : ℕ) (c d : Machine S) → Cycles steps says n c d → d.observed.report.cycles ≡ c.observed.report.cycles + n
+as_many steps says zero c d h = omega (arith, ap (λ m. m.observed.report.cycles) h)
 as_many steps says (suc n) c d h =
-    omega (arith, as_many steps says n c h.0 h.2, ap (λ m. m.cycles) h.3.report, one_more h.1 (ends (hand h.0.state).sequencing) h.0.report)
+    omega (arith, as_many steps says n c h.0 h.2, ap (λ m. m.cycles) (report_of h.3), one_more h.1 (ends (hand h.0.processor.state).sequencing) h.0.observed.report)
 
 pub returns-in_err-check_run : goal.returns-in_err-check_run
 returns-in_err-check_run g c h =
