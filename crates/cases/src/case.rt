@@ -3,7 +3,7 @@
 ghost use Rattle.std.specs.Prelude.{◌≡◌, IsTrue, ◌↔◌};
 ghost use Rattle.replies.specs.Replies.{answer_to};
 
-use lines::writing::text;
+use text::writing::text;
 use pile::job::Memories;
 use replies::Replies;
 

@@ -1,6 +1,7 @@
 -- What one call of next gives, by how it came to it. Assumes nothing.
 use Rattle.std.proofs.Common.{◌≡◌, ℕ, ◌+◌, List, [], ◌∷◌, ◌++◌, Some, None, Option, option_to_list, sym, refl, ap, ap₂, ◌∙◌, subst, subst₂}
-use Rattle.bus.specs.Meaning.{Keeps, Meaning}
+use Rattle.bus.specs.Decided.{SettlesAsDecided}
+use Rattle.bus.specs.Meaning.{Meaning}
 use Rattle.bus.specs.declared.request.Answer.{Answer}
 use Rattle.bus.specs.declared.request.Request.{Request}
 use Rattle.jobs.specs.Coming.{Leaves, NextGives, left_of, sight_of, stage_of, standing, to_come}
@@ -11,8 +12,9 @@ use Rattle.jobs.specs.declared.job.Job.{Job}
 use Rattle.jobs.specs.declared.station.Station.{Station}
 use Rattle.jobs.proofs.Decided.{heeds, shown}
 use Rattle.jobs.proofs.Promised.{promised}
-use Rattle.lines.specs.Line.{read_line}
-use Rattle.lines.specs.declared.reply.Reply.{Reply}
+use Rattle.text.specs.Line.{read_line}
+use Rattle.text.specs.declared.reply.Reply.{Reply}
+use Rattle.r3000.specs.Decided.{CyclesAsDecided}
 use Rattle.r3000.specs.Machine.{History, fresh}
 use Rattle.r3000.specs.Promise.{Kept}
 use Rattle.r3000.specs.declared.processor.Processor.{Processor}
@@ -22,7 +24,9 @@ pub none_left : {B : Type 0} (o : Option B) (bytes : List ℕ) → lines_of byte
 none_left (Some pile) bytes e = e
 none_left None bytes e = refl
 
-module _ {B : Type 0} {means : B → Meaning} {steps : B → Request → Answer → B → Type 0} (keeps : Keeps means steps) (kept : (start : B) → Kept means steps start) where
+module _ {B : Type 0} {means : B → Meaning} {steps : B → Request → Answer → B → Type 0} 
+    (settles : SettlesAsDecided means steps) (cycles : CyclesAsDecided means steps)
+    (kept : (start : B) → Kept means steps start) where
   -- a station is seen as its stage is shown, whatever is behind it
   sight_same : (s : B) (h : History) (pile : B) (o : Option Processor) → shown means (stage s h (record { pile = pile; processor = o })) ≡ sight_of means pile o
   sight_same s h pile None = refl
@@ -107,7 +111,7 @@ module _ {B : Type 0} {means : B → Meaning} {steps : B → Request → Answer 
             };
         exact = λ next decided.
             let done = goes pile fresh in
-            let turn = heeds next keeps decided (stage pile fresh st) (stage done.0 done.1 after) x.number (read_line l) (r ∷ []) done.2 in
+            let turn = heeds settles cycles next decided (stage pile fresh st) (stage done.0 done.1 after) x.number (read_line l) (r ∷ []) done.2 in
             let at = λ (e : Sight). heeded next e x.number (read_line l) in
             let here : Sight = sight_of means pile x.processor in
             let told : r ∷ [] ≡ (at here).reply = turn.0 ∙ ap (λ e. (at e).reply) (sight_same pile fresh pile x.processor) in

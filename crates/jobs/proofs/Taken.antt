@@ -5,10 +5,9 @@ use Rattle.bus.specs.Meaning.{Meaning}
 use Rattle.bus.specs.declared.request.Answer.{Answer}
 use Rattle.bus.specs.declared.request.Request.{Request}
 use Rattle.jobs.specs.Job.{Standing, begun, denial, last_of, lines_of}
-use Rattle.jobs.specs.Limits.{max_job}
 use Rattle.jobs.specs.Station.{IsPromised, IsReached, Stage, loading, running}
-use Rattle.lines.specs.declared.fault.JobFault.TheVariants as fault
-use Rattle.lines.specs.declared.reply.Reply.{Reply}
+use Rattle.jobs.specs.declared.fault.JobFault.TheVariants as fault
+use Rattle.text.specs.declared.reply.Reply.{Reply}
 
 -- one reply more is the last
 pub last_more : (rs : List Reply) (r : Reply) → Some r ≡ last_of (rs ++ r ∷ [])
@@ -17,10 +16,14 @@ last_more (q ∷ rs) r = ap (λ o. elim o [ Some p ↦ Some p | None ↦ Some q 
 
 module _ {S : Type 0} (means : S → Meaning) (steps : S → Request → Answer → S → Type 0) where
   -- a job begins before a start
-  pub reached_first : (pile : S) (bytes : List ℕ) → IsReached means steps (begun pile bytes).stage
-  reached_first pile bytes = by (nat_lt max_job (length bytes))
+  pub reached_first : (limit : ℕ) (pile : S) (bytes : List ℕ) → IsReached means steps (begun limit pile bytes).stage
+  reached_first limit pile bytes = by (nat_lt limit (length bytes))
     where
-      by : (t : Bool) → IsReached means steps (cond {A = Standing S} t (record { due = denial 0 fault.TooLong ∷ []; stage = loading pile; number = 1; left = [] }) (record { due = []; stage = loading pile; number = 1; left = lines_of bytes })).stage
+      by : (t : Bool)
+          → IsReached means steps
+          (cond {A = Standing S} t
+          (record { due = denial 0 fault.TooLong ∷ []; stage = loading pile; number = 1; left = [] })
+          (record { due = []; stage = loading pile; number = 1; left = lines_of bytes })).stage
       by true = tt
       by false = tt
 

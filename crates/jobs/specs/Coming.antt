@@ -10,14 +10,15 @@ use Rattle.jobs.specs.Decided.{Sight, replies}
 use Rattle.jobs.specs.Job.{Gives, Standing, ToCome, lines_of}
 use Rattle.jobs.specs.Station.{IsPromised, IsReached, Stage, loading, stage}
 use Rattle.jobs.specs.declared.job.Job.{Job}
-use Rattle.lines.specs.declared.reply.Reply.{Reply}
+use Rattle.text.specs.declared.reply.Reply.{Reply}
 use Rattle.r3000.specs.Core.{made}
-use Rattle.r3000.specs.Machine.{History, Machine, fresh}
+use Rattle.r3000.specs.Decided.{core_shown}
+use Rattle.r3000.specs.Machine.{History, fresh}
 use Rattle.r3000.specs.declared.processor.Processor.{Processor}
 
 module _ {B : Type 0} where
-  -- the stage of a job, on the pile of its start; a job has its pile whenever it is not at work, and without one it would be at
-  -- its end
+  -- the stage of a job, on the pile of its start; a job has its pile whenever it is not at work, and without one it would be
+  -- at its end
   abbrev pub stage_of : B → History → Option B → Option Processor → Stage B
   stage_of s h (Some pile) processor = stage s h (record { pile = pile; processor = processor })
   stage_of s h None processor = loading s
@@ -30,28 +31,35 @@ module _ {B : Type 0} where
   -- where a job stands, on the pile of its start and with a history behind it
   abbrev pub standing : B → History → Job B → Standing B
   standing s h x =
-      record { due = option_to_list x.due; stage = stage_of s h x.pile x.processor; number = x.number; left = left_of x.pile x.lines.0.now }
+      record {
+        due = option_to_list x.due;
+        stage = stage_of s h x.pile x.processor;
+        number = x.number;
+        left = left_of x.pile x.lines.0.now;
+      }
 
   module _ (means : B → Meaning) where
-    -- a core with what its memory means in the memory's place, and no history
-    abbrev pub core_shown : Machine B → Machine Meaning
-    core_shown c = record { state = c.state; lines = c.lines; report = c.report; pile = means c.pile; history = fresh }
-
     -- a pile and its processor, so
     abbrev pub sight_of : B → Option Processor → Sight
     sight_of pile None = sight.loading (means pile)
-    sight_of pile (Some processor) = sight.running (core_shown (made fresh processor pile))
+    sight_of pile (Some processor) = sight.running (core_shown means (made fresh processor pile))
 
     -- on a decided memory the replies that are still to come of a job are these
     abbrev pub to_come : (Meaning → Request → Meaning) → Job B → List Reply
     to_come next x =
-        option_to_list x.due ++ elim x.pile [ Some pile ↦ replies next (sight_of pile x.processor) x.number (lines_of x.lines.0.now) | None ↦ [] ]
+        option_to_list x.due
+        ++ elim x.pile [
+          | Some pile ↦ replies next (sight_of pile x.processor) x.number (lines_of x.lines.0.now)
+          | None ↦ []
+        ]
 
     module _ (steps : B → Request → Answer → B → Type 0) where
       -- what a reply that was given leaves to come: whatever comes after it is, with it, what came before; and none is given
       -- only where none is to come
       abbrev pub Leaves : Standing B → Option Reply → Standing B → Type 0
-      Leaves x r y = MatchOption r (ToCome means steps x []) (λ d. (rs : List Reply) → ToCome means steps y rs → ToCome means steps x (d ∷ rs))
+      Leaves x r y =
+          MatchOption r (ToCome means steps x [])
+          (λ d. (rs : List Reply) → ToCome means steps y rs → ToCome means steps x (d ∷ rs))
 
       -- one call of next, over any pile
       pub record Turns (s : B) (h : History) (x : Job B) (r : Option Reply) (y : Job B) : Type 0 where

@@ -3,15 +3,15 @@ use Rattle.std.specs.Prelude.{◌≡◌, ℕ, ◌+◌, cond, List, [], ◌∷◌
 use Rattle.bus.specs.Meaning.{Meaning}
 use Rattle.bus.specs.declared.request.Answer.{Answer}
 use Rattle.bus.specs.declared.request.Request.{Request}
-use Rattle.lines.specs.Fault.{address_of, number_of}
-use Rattle.lines.specs.Line.{read_line}
-use Rattle.jobs.specs.Limits.{max_job}
+use Rattle.jobs.specs.Fault.{address_of, number_of}
+use Rattle.text.specs.Line.{read_line}
+use Rattle.text.specs.declared.fault.LineFault.{LineFault}
 use Rattle.jobs.specs.Station.{IsPromised, Obeys, Stage, loading}
-use Rattle.lines.specs.declared.fault.JobFault.{JobFault}
-use Rattle.lines.specs.declared.fault.JobFault.TheVariants as fault
-use Rattle.lines.specs.declared.order.Order.{Order}
-use Rattle.lines.specs.declared.reply.Reply.{Reply}
-use Rattle.lines.specs.declared.reply.Reply.TheVariants as reply
+use Rattle.jobs.specs.declared.fault.JobFault.{JobFault}
+use Rattle.jobs.specs.declared.fault.JobFault.TheVariants as fault
+use Rattle.text.specs.declared.order.Order.{Order}
+use Rattle.text.specs.declared.reply.Reply.{Reply}
+use Rattle.text.specs.declared.reply.Reply.TheVariants as reply
 
 -- a byte begins the first line
 abbrev pub begins : ℕ → List (List ℕ) → List (List ℕ)
@@ -40,10 +40,10 @@ pub record Standing (S : Type 0) : Type 0 where
   pub number : ℕ
   pub left : List (List ℕ)
 
--- where a job stands at first: one of more than 65,536 bytes is denied as line 0, and nothing else of it is done
-abbrev pub begun : {S : Type 0} → S → List ℕ → Standing S
-begun pile job =
-    cond (nat_lt max_job (length job))
+-- where a job stands at first: one of more bytes than the limit is denied as line 0, and nothing else of it is done
+abbrev pub begun : {S : Type 0} → ℕ → S → List ℕ → Standing S
+begun limit pile job =
+    cond (nat_lt limit (length job))
     (record { due = denial 0 fault.TooLong ∷ []; stage = loading pile; number = 1; left = [] })
     (record { due = []; stage = loading pile; number = 1; left = lines_of job })
 
@@ -54,23 +54,24 @@ last_of (r ∷ rs) = elim (last_of rs) [ Some q ↦ Some q | None ↦ Some r ]
 
 module _ {S : Type 0} (means : S → Meaning) (steps : S → Request → Answer → S → Type 0) where
   -- a line that was read: denied by its form, or an order
-  abbrev pub Heeds : Stage S → ℕ → Result Order JobFault → List Reply → Stage S → Type 0
-  Heeds e n (Err f) rs g = (rs ≡ answered n (Err f)) × (g ≡ e)
+  abbrev pub Heeds : Stage S → ℕ → Result Order LineFault → List Reply → Stage S → Type 0
+  Heeds e n (Err f) rs g = (rs ≡ answered n (Err (fault.Line f))) × (g ≡ e)
   Heeds e n (Ok o) rs g = (q : Result Reply JobFault) × Obeys means steps e o q g × (rs ≡ answered n q)
 
   -- lines one after another, numbered, each with its replies; after each the promise holds
   abbrev pub Works : Stage S → ℕ → List (List ℕ) → List Reply → Stage S → Type 0
   Works e n [] rs f = (rs ≡ []) × (f ≡ e)
   Works e n (l ∷ ls) rs f =
-      (here : List Reply) × (qs : List Reply) × (g : Stage S) × (rs ≡ here ++ qs) × Heeds e n (read_line l) here g × IsPromised means steps g × Works g (n + 1) ls qs f
+      (here : List Reply) × (qs : List Reply) × (g : Stage S) × (rs ≡ here ++ qs) × Heeds e n (read_line l) here g
+      × IsPromised means steps g × Works g (n + 1) ls qs f
 
   -- replies that are all that a job still gives: those that are due, and those to the lines that are left
   abbrev pub ToCome : Standing S → List Reply → Type 0
   ToCome x rs = (qs : List Reply) × (end : Stage S) × (rs ≡ x.due ++ qs) × Works x.stage x.number x.left qs end
 
   -- a whole job on a pile, with all its replies
-  abbrev pub Done : S → List ℕ → List Reply → Type 0
-  Done pile job rs = ToCome (begun pile job) rs
+  abbrev pub Done : ℕ → S → List ℕ → List Reply → Type 0
+  Done limit pile job rs = ToCome (begun limit pile job) rs
 
   -- how a job gives its next reply: one that is due; where none is, it does the next line, and gives the first of the line's
   -- replies; where no line is left either, it gives none and stays as it is

@@ -1,4 +1,4 @@
--- What each line does, before the start and after it. Assumes nothing.
+-- What a line does, over any memory. Assumes nothing.
 use Rattle.std.specs.Prelude.{◌≡◌, ℕ, Some, None, Ok, Err, Result}
 use Rattle.bus.specs.Meaning.{Meaning}
 use Rattle.bus.specs.Request.{writing}
@@ -8,21 +8,21 @@ use Rattle.bus.specs.declared.request.Request.{Request}
 use Rattle.bus.specs.declared.request.Width.TheVariants.{Word}
 use Rattle.bus.specs.declared.settle.BusFault.{BusFault}
 use Rattle.bus.specs.declared.settle.Settled.{Settled}
-use Rattle.lines.specs.declared.fault.JobFault.{JobFault}
-use Rattle.lines.specs.declared.fault.JobFault.TheVariants as fault
-use Rattle.lines.specs.declared.fault.LoadFault.{LoadFault}
-use Rattle.lines.specs.declared.order.Order.{Order}
-use Rattle.lines.specs.declared.order.Order.TheVariants as order
-use Rattle.lines.specs.declared.reply.Reply.{Reply}
-use Rattle.lines.specs.declared.reply.Reply.TheVariants as reply
+use Rattle.jobs.specs.Decision.{EarlyEffect, LateEffect, decision, make_cycles, power_up, reply_with, set_lines}
+use Rattle.jobs.specs.Decision as effect
+use Rattle.jobs.specs.declared.fault.JobFault.{JobFault}
+use Rattle.jobs.specs.declared.fault.JobFault.TheVariants as fault
+use Rattle.jobs.specs.declared.fault.LoadFault.{LoadFault}
 use Rattle.jobs.specs.declared.station.Station.{Station}
-use Rattle.r3000.specs.Calls.{Runs, lines_reply, lines_set, register_reply}
 use Rattle.r3000.specs.Core.{made}
-use Rattle.r3000.specs.Machine.{History, Machine, built}
+use Rattle.r3000.specs.Cycle.{Cycles}
+use Rattle.r3000.specs.Machine.{History, Machine, built, with_lines}
 use Rattle.r3000.specs.Promise.{Promised, Upholds}
 use Rattle.r3000.specs.Reached.{Reached}
-use Rattle.r3000.specs.declared.denial.Denial.{Denial}
 use Rattle.r3000.specs.declared.report.Report.{Report}
+use Rattle.text.specs.declared.order.Order.{Order}
+use Rattle.text.specs.declared.reply.Reply.{Reply}
+use Rattle.text.specs.declared.reply.Reply.TheVariants as reply
 
 -- before the start there is a pile; after it a core, and the pile that it was built on
 pub data Stage (S : Type 0) : Type 0 where
@@ -43,36 +43,39 @@ abbrev pub loaded : Result (Unit {0}) LoadFault → Result Reply JobFault
 loaded (Ok u) = Ok reply.Loaded
 loaded (Err f) = Err (fault.Load f)
 
--- what a call of the core gives is put into the line's reply, and a denial goes up as the line's
-abbrev pub called : {A : Type 0} → (A → Reply) → Result A Denial → Result Reply JobFault
-called put (Ok a) = Ok (put a)
-called put (Err d) = Err (fault.Core d)
-
 -- a run's reply has the counts of its report
 abbrev pub counted : Report → Reply
 counted n = reply.Ran (record { cycles = n.cycles; frozen = n.frozen; boundaries = n.boundaries })
 
 module _ {S : Type 0} (means : S → Meaning) (steps : S → Request → Answer → S → Type 0) where
-  -- an order before the start
-  abbrev pub EarlyObeys : S → Order → Result Reply JobFault → Stage S → Type 0
-  EarlyObeys s (order.Load address word) r e = (q : Settled) × (t : S) × Settles means steps s (store address word) q t × (r ≡ loaded (load_end q.outcome)) × (e ≡ loading t)
-  EarlyObeys s order.Start r e = (r ≡ Ok reply.Started) × (e ≡ running s (built s))
-  EarlyObeys s (order.Lines n) r e = (r ≡ Err fault.BeforeStart) × (e ≡ loading s)
-  EarlyObeys s (order.Run n) r e = (r ≡ Err fault.BeforeStart) × (e ≡ loading s)
-  EarlyObeys s (order.Show n) r e = (r ≡ Err fault.BeforeStart) × (e ≡ loading s)
+  -- an effect before the start, on a memory
+  abbrev pub EarlyDoes : S → EarlyEffect → Result Reply JobFault → Stage S → Type 0
+  EarlyDoes s (effect.store address word) r e =
+      (q : Settled) × (t : S) × Settles means steps s (store address word) q t × (r ≡ loaded (load_end q.outcome))
+      × (e ≡ loading t)
+  EarlyDoes s power_up r e = (r ≡ Ok reply.Started) × (e ≡ running s (built s))
 
-  -- an order after the start; each cycle of a run upholds the promise
-  abbrev pub LateObeys : Machine S → Order → Result Reply JobFault → Machine S → Type 0
-  LateObeys c (order.Load address word) r d = (r ≡ Err fault.AfterStart) × (d ≡ c)
-  LateObeys c order.Start r d = (r ≡ Err fault.AfterStart) × (d ≡ c)
-  LateObeys c (order.Lines n) r d = (r ≡ called (λ u. reply.Set) (lines_reply n)) × (d ≡ lines_set n c)
-  LateObeys c (order.Run n) r d = (q : Result Report Denial) × Runs steps (Upholds means steps c) n c q d × (r ≡ called counted q)
-  LateObeys c (order.Show n) r d = (r ≡ called (reply.Shown n) (register_reply n c.state)) × (d ≡ c)
+  -- an effect after the start, on a core; each cycle upholds the promise
+  abbrev pub LateDoes : Machine S → LateEffect → Reply → Machine S → Type 0
+  LateDoes c (set_lines n) r d = (r ≡ reply.Set) × (d ≡ with_lines n c)
+  LateDoes c (make_cycles n) r d = Cycles steps (Upholds means steps c) n c d × (r ≡ counted d.observed.report)
+  LateDoes c (reply_with q) r d = (r ≡ q) × (d ≡ c)
+
+  -- what was decided before the start: a denied line leaves the memory as it is
+  abbrev pub EarlyObeys : S → Result EarlyEffect JobFault → Result Reply JobFault → Stage S → Type 0
+  EarlyObeys s (Err f) r e = (r ≡ Err f) × (e ≡ loading s)
+  EarlyObeys s (Ok x) r e = EarlyDoes s x r e
+
+  -- what was decided after the start: a denied line leaves the core as it is
+  abbrev pub LateObeys : Machine S → Result LateEffect JobFault → Result Reply JobFault → Machine S → Type 0
+  LateObeys c (Err f) r d = (r ≡ Err f) × (d ≡ c)
+  LateObeys c (Ok x) r d = (q : Reply) × (r ≡ Ok q) × LateDoes c x q d
 
   -- an order
   abbrev pub Obeys : Stage S → Order → Result Reply JobFault → Stage S → Type 0
-  Obeys (loading s) o r e = EarlyObeys s o r e
-  Obeys (running s c) o r e = (d : Machine S) × LateObeys c o r d × (e ≡ running s d)
+  Obeys (loading s) o r e = EarlyObeys s (decision o).before r e
+  Obeys (running s c) o r e =
+      (d : Machine S) × LateObeys c ((decision o).after c.processor c.observed.report) r d × (e ≡ running s d)
 
   -- the core, if there is one, can be reached on the pile that it was built on
   abbrev pub IsReached : Stage S → Type 0
@@ -89,6 +92,8 @@ abbrev pub stage : {B : Type 0} → B → History → Station B → Stage B
 stage s h x = elim x.processor [ Some processor ↦ running s (made h processor x.pile) | None ↦ loading x.pile ]
 
 -- whatever is behind a station, something happens to it, and that is then behind it too; and the promise is upheld
-abbrev pub Goes : {B : Type 0} → (B → Meaning) → (B → Request → Answer → B → Type 0) → (Stage B → Stage B → Type 0) → Station B → Station B → Type 0
+abbrev pub Goes : {B : Type 0} → (B → Meaning) → (B → Request → Answer → B → Type 0) → (Stage B → Stage B → Type 0)
+    → Station B → Station B → Type 0
 Goes {B} means steps R c d =
-    (s : B) (h : History) → (t : B) × (k : History) × R (stage s h c) (stage t k d) × (IsReached means steps (stage s h c) → IsPromised means steps (stage t k d))
+    (s : B) (h : History) → (t : B) × (k : History) × R (stage s h c) (stage t k d)
+    × (IsReached means steps (stage s h c) → IsPromised means steps (stage t k d))

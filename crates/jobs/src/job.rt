@@ -5,13 +5,15 @@ ghost use Rattle.jobs.specs.Job.{lines_of};
 ghost use Rattle.jobs.specs.Limits.{max_job};
 
 use super::cut::Lines;
+use super::fault::JobFault;
 use super::limits::MAX_JOB;
 use super::station::{Station, denial};
 use bus::memory::Bus;
-use lines::fault::JobFault;
-use lines::reply::Reply;
+use bus::settle::settles_as_decided;
+use r3000::decided::cycles_as_decided;
 use r3000::processor::Processor;
 use r3000::promise::promise;
+use text::reply::Reply;
 
 /// A job at work on a pile: an iterator over the replies that are still to come. Nothing is allocated.
 ///
@@ -42,8 +44,9 @@ impl<'a, B: Bus> Job<'a, B> {
 
     /// A job that is still to be done, on a pile.
     pub fn new(pile: B, bytes: &'a [u8]) -> Job<'a, B>
-        ensures stands { (start : B) (h : History) → standing start h result ≡ begun pile bytes.now }
-        ensures replies { (next : Meaning → Request → Meaning) → to_come B.Bus.means next result ≡ replies_on next (B.Bus.means pile) bytes.now }
+        ensures stands { (start : B) (h : History) → standing start h result ≡ begun max_job pile bytes.now }
+        ensures replies { (next : Meaning → Request → Meaning)
+            → to_come B.Bus.means next result ≡ replies_on next max_job (B.Bus.means pile) bytes.now }
     {
         let too_long = bytes.len() > MAX_JOB;
         Job {
@@ -69,6 +72,8 @@ impl<'a, B: Bus + Drop> Iterator for Job<'a, B> {
 
     fn next(&mut self) -> Option<Reply> {
         promise::<B>();
+        settles_as_decided::<B>();
+        cycles_as_decided::<B>();
         if let Some(reply) = self.due.take() {
             return Some(reply);
         }

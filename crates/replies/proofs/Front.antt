@@ -5,8 +5,8 @@ use Rattle.std.proofs.lemmas.List.{length-take, take_all}
 use Rattle.jobs.specs.Decided.{loading, replies}
 use Rattle.jobs.specs.Job.{denial, lines_of}
 use Rattle.jobs.specs.Limits.{max_job}
-use Rattle.lines.specs.declared.fault.JobFault.TheVariants as fault
-use Rattle.lines.specs.declared.reply.Reply.{Reply}
+use Rattle.jobs.specs.declared.fault.JobFault.TheVariants as fault
+use Rattle.text.specs.declared.reply.Reply.{Reply}
 use Rattle.pile.specs.Decided.{next}
 use Rattle.replies.specs.Replies.{replies_to, zeroed}
 

@@ -4,8 +4,8 @@ use Rattle.bus.specs.Meaning.{Meaning}
 use Rattle.jobs.specs.Coming as job
 use Rattle.jobs.specs.Decided.{replies_on}
 use Rattle.jobs.specs.Limits.{max_job}
-use Rattle.lines.specs.Written.{written}
-use Rattle.lines.specs.declared.reply.Reply.{Reply}
+use Rattle.text.specs.Written.{written}
+use Rattle.text.specs.declared.reply.Reply.{Reply}
 use Rattle.pile.specs.Decided.{next}
 use Rattle.pile.specs.Job.{high_length, job_pile, low_length, pile_means}
 use Rattle.replies.specs.declared.Replies.{Replies}

@@ -10,7 +10,7 @@ pub mod example;
 
 use jobs::job::Job;
 use jobs::limits::MAX_JOB;
-use lines::reply::Reply;
+use text::reply::Reply;
 use pile::job::{Memories, Pile, goes_on};
 
 /// A job at work on the pile of jobs: an iterator over the replies that are still to come. Nothing is allocated.

@@ -6,7 +6,7 @@ ghost use Rattle.replies.specs.Replies.{all_written, to_come};
 ghost use Rattle.runjob.specs.Run.{Writing};
 
 use super::RETRIES;
-use lines::writing::text;
+use text::writing::text;
 use replies::Replies;
 use std::io;
 use std::io::{ErrorKind, Write};

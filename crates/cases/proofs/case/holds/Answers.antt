@@ -1,5 +1,5 @@
 use Rattle.std.proofs.Common.{◌≡◌, true, false, [], ◌++◌, length, take, drop, eqb, sym, ap, ◌∙◌, subst}
-use Rattle.lines.specs.Written.{written}
+use Rattle.text.specs.Written.{written}
 use Rattle.replies.specs.Replies.{all_written, to_come}
 use Rattle.cases.proofs.Compared.{begun, differs, ended}
 use Rattle.cases.proofs.case.holds.Goals as goal

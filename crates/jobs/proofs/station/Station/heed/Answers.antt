@@ -2,8 +2,8 @@ use Rattle.std.proofs.Common.{◌≡◌, ℕ, [], ◌∷◌, Ok, Err, Result, sy
 use Rattle.std.specs.Result.{MatchResult}
 use Rattle.jobs.specs.Job.{Heeds, answered, denial}
 use Rattle.jobs.specs.Station.{IsPromised, IsReached, stage}
-use Rattle.lines.specs.declared.fault.JobFault.{JobFault}
-use Rattle.lines.specs.declared.reply.Reply.{Reply}
+use Rattle.jobs.specs.declared.fault.JobFault.{JobFault}
+use Rattle.text.specs.declared.reply.Reply.{Reply}
 use Rattle.jobs.proofs.Promised.{promised}
 use Rattle.jobs.proofs.station.Station.heed.Goals as goal
 use Rattle.jobs.proofs.station.Station.heed.Goals.{in-Err, in-Ok}

@@ -1,6 +1,7 @@
 use Rattle.std.proofs.Common.{◌≡◌, sym, refl, ap, ◌∙◌, subst, subst₂}
 use Rattle.r3000.specs.Core.{machine}
 use Rattle.r3000.specs.Machine.{fresh}
+use Rattle.jobs.specs.Decision.{decision}
 use Rattle.jobs.specs.Station.{IsPromised, IsReached, Obeys, loading, running, stage}
 use Rattle.jobs.proofs.Promised.{early_promised}
 use Rattle.jobs.proofs.station.Station.obey.Goals as goal
@@ -13,7 +14,7 @@ returns-in_default g c s h =
       here,
       fresh,
       subst (λ e. Obeys g.B.Bus.means g.B.Bus.steps e c.args.order c.early.result.1 after) (sym before) c.early.ensures,
-      λ r. early_promised c.promise.ensures here c.args.order c.early.result.1 after c.early.ensures,
+      λ r. early_promised c.promise.ensures here (decision c.args.order).before c.early.result.1 after c.early.ensures,
     )
 
 pub returns : goal.returns
