@@ -10,16 +10,20 @@ use Rattle.text.specs.declared.reply.Reply.{Reply}
 use Rattle.pile.specs.Decided.{next}
 use Rattle.replies.specs.Replies.{replies_to, zeroed}
 
-front : (n m : ℕ) → n < m → (f : List ℕ → List Reply) (t : List Reply) (job : List ℕ) → cond (ltb n (length (take m job))) t (f (take m job)) ≡ cond (ltb n (length job)) t (f job)
+front : (n m : ℕ) → n < m → (f : List ℕ → List Reply) (t : List Reply) (job : List ℕ)
+    → cond (ltb n (length (take m job))) t (f (take m job)) ≡ cond (ltb n (length job)) t (f job)
 front n m more f t job = by (ltb n (length job)) refl
   where
-    by : (b : Bool) → ltb n (length job) ≡ b → cond (ltb n (length (take m job))) t (f (take m job)) ≡ cond (ltb n (length job)) t (f job)
+    by : (b : Bool) → ltb n (length job) ≡ b
+        → cond (ltb n (length (take m job))) t (f (take m job)) ≡ cond (ltb n (length job)) t (f job)
     by true e =
-        let long : ltb n (length (take m job)) ≡ true = lt-ltb n _ (omega (arith, length-take m job, ltb-true n (length job) e)) in
+        let long : ltb n (length (take m job)) ≡ true =
+        lt-ltb n _ (omega (arith, length-take m job, ltb-true n (length job) e)) in
         rw (long, e) refl
     by false e =
         let all : take m job ≡ job = take_all m job (omega (arith, ltb-false n (length job) e)) in
         rw all refl
 
 pub front_tells : (n : ℕ) → max_job < n → (job : List ℕ) → replies_to (take n job) ≡ replies_to job
-front_tells n more job = front max_job n more (λ bytes. replies next (loading zeroed) 1 (lines_of bytes)) (denial 0 fault.TooLong ∷ []) job
+front_tells n more job =
+    front max_job n more (λ bytes. replies next (loading zeroed) 1 (lines_of bytes)) (denial 0 fault.TooLong ∷ []) job

@@ -16,7 +16,7 @@ zeroed = job_pile (replicate low_length 0) (replicate high_length 0)
 
 -- the replies to a job on it
 abbrev pub replies_to : List ℕ → List Reply
-replies_to bytes = replies_on next zeroed bytes
+replies_to bytes = replies_on next max_job zeroed bytes
 
 -- the bytes of replies one after another
 abbrev pub all_written : List Reply → List ℕ

@@ -10,8 +10,8 @@ pub mod example;
 
 use jobs::job::Job;
 use jobs::limits::MAX_JOB;
-use text::reply::Reply;
 use pile::job::{Memories, Pile, goes_on};
+use text::reply::Reply;
 
 /// A job at work on the pile of jobs: an iterator over the replies that are still to come. Nothing is allocated.
 #[derive(Drop)]
