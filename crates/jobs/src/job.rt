@@ -68,6 +68,7 @@ impl<'a, B: Bus + Drop> Iterator for Job<'a, B> {
     ghost remaining = { λ x. at_most (length (option_to_list x.due) + length (left_of x.pile x.lines.0.now)) };
 
     fn next(&mut self) -> Option<Reply> {
+        B::keeps();
         promise::<B>();
         if let Some(reply) = self.due.take() {
             return Some(reply);

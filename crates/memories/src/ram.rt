@@ -1,8 +1,8 @@
 //! RAM: the caller's bytes at a base.
 
 ghost use Rattle.std.specs.Prelude.{◌≡◌, ◌-◌, length};
+ghost use Rattle.bus.specs.Meaning.{Keeps};
 ghost use Rattle.bus.specs.Request.{word_of, first, writing};
-ghost use Rattle.memories.specs.Keeps.Region.{ram_keeps};
 ghost use Rattle.memories.specs.Placement.{placed};
 ghost use Rattle.memories.specs.Ram.{RamSteps, ram_means};
 ghost use Rattle.memories.specs.Region.{Moves, ram};
@@ -103,8 +103,6 @@ impl Bus for Ram<'_> {
 
     ghost steps = { RamSteps };
 
-    ghost keeps = { ram_keeps };
-
     fn request(&mut self, q: Request) -> Answer {
         self.answer(q)
     }
@@ -116,4 +114,8 @@ impl Bus for Ram<'_> {
     fn longest_wait(&self) -> u16 {
         LONGEST_WAIT
     }
+
+    fn keeps()
+        ensures { Keeps ram_means RamSteps }
+    {}
 }

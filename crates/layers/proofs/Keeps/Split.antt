@@ -2,7 +2,7 @@
 use Rattle.std.specs.Prelude.{◌≡◌, ℕ, ◌+◌, ◌<◌, ◌≤◌, max, Bool, true, false, cond, ◌⊎◌, MatchBool, nat_lt, refl}
 use Rattle.std.proofs.Common.{inl, inr, sym, ap, subst, arith}
 use Rattle.std.proofs.lemmas.Bool.{both_ways, cases_Bool, le-ltb, lt-ltb, ltb-false, ltb-true}
-use Rattle.layers.specs.Keeps.Layer.{Beside, Stands, layer, request}
+use Rattle.layers.proofs.Keeps.Layer.{Beside, Stands, layer, request}
 use Rattle.bus.specs.Meaning.{Answers, Keeps, Meaning, Sound}
 use Rattle.bus.specs.Request.{word_of}
 use Rattle.layers.specs.Split.{SplitSteps, split, split_means}

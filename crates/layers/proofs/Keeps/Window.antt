@@ -2,7 +2,7 @@
 use Rattle.std.specs.Prelude.{◌≡◌, ℕ, ◌+◌, ◌/◌, ◌%◌, ◌^◌, ◌<◌, ◌≤◌, Bool, true, false, cond, ◌⊎◌, MatchBool, nat_lt, refl}
 use Rattle.std.proofs.Common.{inl, inr, sym, ap, subst₂, ◌∙◌, arith}
 use Rattle.std.proofs.lemmas.Bool.{both_ways, cases_Bool, cases_order, false≢true, le-ltb, lt-ltb, ltb-false, ltb-true}
-use Rattle.layers.specs.Keeps.Layer.{Beside, Stands, layer, request}
+use Rattle.layers.proofs.Keeps.Layer.{Beside, Stands, layer, request}
 use Rattle.bus.specs.Meaning.{Answers, Keeps, Meaning, Sound, after, answer}
 use Rattle.bus.specs.Request.{moved, word_of}
 use Rattle.layers.specs.Window.{WindowSteps, end, onto, window, window_means}

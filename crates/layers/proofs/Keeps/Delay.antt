@@ -4,7 +4,7 @@ use Rattle.std.proofs.Common.{inl, sym, ap, subst, arith}
 use Rattle.std.proofs.Math.Path.{subst₃}
 use Rattle.std.proofs.lemmas.Bool.{and_from, eq-eqb, lt-ltb, ltb-false, ltb-true}
 use Rattle.layers.specs.Delay.{DelaySteps, delay, delay_means, ended, left, lowered}
-use Rattle.layers.specs.Keeps.Layer.{layer, request}
+use Rattle.layers.proofs.Keeps.Layer.{layer, request}
 use Rattle.bus.specs.Meaning.{Answers, Keeps, Meaning, Sound}
 use Rattle.bus.specs.Request.{access_of, same, kind_number}
 use Rattle.layers.specs.declared.delay.Delay.{Delay}
