@@ -36,7 +36,8 @@ impl<'a> Ram<'a> {
         ensures means { ram_means result ≡ ram base (placed base bytes.old) }
         ensures base { result.base ≡ base }
         ensures bytes { result.bytes.now ≡ placed base bytes.old }
-        ensures same_reference { length (placed base bytes.old) ≡ length bytes.old → result.bytes.ghost_name ≡ bytes.entry.ghost_name }
+        ensures same_reference { length (placed base bytes.old) ≡ length bytes.old
+            → result.bytes.ghost_name ≡ bytes.entry.ghost_name }
     {
         let length = placed_length(base, bytes.len());
         if length == bytes.len() {
@@ -63,7 +64,8 @@ impl Ram<'_> {
 
     fn write(&mut self, width: Width, address: u32, data: u32) -> Answer
         ensures same_reference { self.new.bytes.ghost_name ≡ self.old.bytes.ghost_name }
-        ensures moves { Moves self.old.base self.old.bytes.now (writing width address «data») result self.new.base self.new.bytes.now }
+        ensures moves { Moves self.old.base self.old.bytes.now (writing width address «data»)
+            result self.new.base self.new.bytes.now }
     {
         let Some(at) = self.region().offset(address) else {
             return Answer::BusError;
