@@ -37,6 +37,7 @@ fn end(request: Request, answer: Answer) -> Option<Result<u32, BusFault>>
 pub fn settle<B: Bus>(bus: &mut B, request: Request) -> Settled
     ensures { Settles B.Bus.means B.Bus.steps bus.old request result bus.new }
 {
+    B::keeps();
     for waits in 0..=bus.longest_wait() {
         let answer = bus.request(request);
         if let Some(outcome) = end(request, answer) {

@@ -39,13 +39,16 @@ ended x (Done v) = Idle
 abbrev pub delay_means : {A : Type 0} → (A → Meaning) → Delay A → Meaning
 delay_means means s = delay s.n s.state (means s.below)
 
--- how a delay goes on at a count: above 0 the answer is wait and the count falls by one; at 0 the memory below is asked
-abbrev pub DelayStepsAt : {A : Type 0} → (A → Request → Answer → A → Type 0) → ℕ → Delay A → Request → Answer → Delay A → Type 0
+-- how a delay goes on at a count: above 0 it answers wait and the count falls by one; at 0 the memory below is asked
+abbrev pub DelayStepsAt : {A : Type 0} → (A → Request → Answer → A → Type 0) → ℕ
+    → Delay A → Request → Answer → Delay A → Type 0
 DelayStepsAt steps count s q a t =
     (t.n ≡ s.n)
     × MatchBool (nat_lt 0 count)
     ((a ≡ Wait) × (t.state ≡ Counting (access_of q) (count - 1)) × (t.below ≡ s.below))
     (steps s.below q a t.below × (t.state ≡ ended (access_of q) a))
 
-abbrev pub DelaySteps : {A : Type 0} → (A → Meaning) → (A → Request → Answer → A → Type 0) → Delay A → Request → Answer → Delay A → Type 0
-DelaySteps means steps s q a t = DelayStepsAt steps (left (lowered s.n (means s.below).longest) s.state (access_of q)) s q a t
+abbrev pub DelaySteps : {A : Type 0} → (A → Meaning) → (A → Request → Answer → A → Type 0)
+    → Delay A → Request → Answer → Delay A → Type 0
+DelaySteps means steps s q a t =
+    DelayStepsAt steps (left (lowered s.n (means s.below).longest) s.state (access_of q)) s q a t

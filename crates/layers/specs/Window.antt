@@ -22,7 +22,9 @@ window base limit m =
       byte = λ x. cond (nat_lt x (end limit)) (m.byte (onto base x)) 0;
       unreadable = λ w. cond (nat_lt w (end limit)) (m.unreadable (onto base w)) true;
       unwritable = λ w. cond (nat_lt w (end limit)) (m.unwritable (onto base w)) true;
-      waits = λ x. cond (nat_lt x.address (end limit)) (m.waits (record { address = onto base x.address; kind = x.kind })) 0;
+      waits =
+          λ x. cond (nat_lt x.address (end limit))
+          (m.waits (record { address = onto base x.address; kind = x.kind })) 0;
       longest = m.longest;
     }
 
@@ -30,7 +32,8 @@ abbrev pub window_means : {A : Type 0} → (A → Meaning) → Window A → Mean
 window_means means s = window s.base s.limit (means s.below)
 
 -- how a window goes on: below the limit the memory is asked, else the answer is bus error and the memory stays
-abbrev pub WindowSteps : {A : Type 0} → (A → Request → Answer → A → Type 0) → Window A → Request → Answer → Window A → Type 0
+abbrev pub WindowSteps : {A : Type 0} → (A → Request → Answer → A → Type 0)
+    → Window A → Request → Answer → Window A → Type 0
 WindowSteps steps s q a t =
     (t.base ≡ s.base) × (t.limit ≡ s.limit)
     × MatchBool (nat_lt q.address (end s.limit))

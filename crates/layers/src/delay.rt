@@ -3,7 +3,6 @@
 ghost use Rattle.std.specs.Prelude.{◌≡◌};
 ghost use Rattle.bus.specs.Request.{access_of};
 ghost use Rattle.layers.specs.Delay.{DelaySteps, delay, delay_means, ended, lowered};
-ghost use Rattle.layers.specs.Keeps.Delay.{delay_keeps};
 ghost use Rattle.layers.specs.declared.delay.State.TheVariants.{Idle};
 
 use bus::memory::{Bus, MAX_WAIT};
@@ -66,8 +65,6 @@ impl<B: Bus> Bus for Delay<B> {
 
     ghost steps = { DelaySteps B.Bus.means B.Bus.steps };
 
-    ghost keeps = { delay_keeps B.Bus.keeps };
-
     fn request(&mut self, q: Request) -> Answer {
         let n = self.own_waits();
         match (&mut self.state, q.access()) {
@@ -93,5 +90,9 @@ impl<B: Bus> Bus for Delay<B> {
 
     fn longest_wait(&self) -> u16 {
         self.below.longest_wait() + u16::from(self.own_waits())
+    }
+
+    fn keeps() {
+        B::keeps();
     }
 }

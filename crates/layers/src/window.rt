@@ -1,7 +1,6 @@
 //! Window: a part of a memory, seen from address 0 up to a limit.
 
 ghost use Rattle.std.specs.Prelude.{◌≡◌, if◌then◌else◌, Some, None, nat_lt};
-ghost use Rattle.layers.specs.Keeps.Window.{window_keeps};
 ghost use Rattle.layers.specs.Window.{WindowSteps, end, onto, window, window_means};
 
 use bus::memory::Bus;
@@ -38,8 +37,6 @@ impl<B: Bus> Bus for Window<B> {
 
     ghost steps = { WindowSteps B.Bus.steps };
 
-    ghost keeps = { window_keeps B.Bus.keeps };
-
     fn request(&mut self, q: Request) -> Answer {
         match self.onto(q.address) {
             Some(address) => self.below.request(Request { address, ..q }),
@@ -53,5 +50,9 @@ impl<B: Bus> Bus for Window<B> {
 
     fn longest_wait(&self) -> u16 {
         self.below.longest_wait()
+    }
+
+    fn keeps() {
+        B::keeps();
     }
 }

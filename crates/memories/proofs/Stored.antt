@@ -1,5 +1,7 @@
 -- What the bytes at a base mean once some of them are written. Assumes nothing.
-use Rattle.std.proofs.Common.{◌≡◌, ℕ, zero, suc, ◌+◌, ◌-◌, ◌/◌, ◌%◌, ◌^◌, ◌<◌, ◌≤◌, Bool, true, false, cond, ◌&&◌, ltb, leb, ◌≢◌, ◌⊎◌, List, length, set, Some, None, refl, ◌∙◌, inl, inr, add-zero, div-one, arith, get_or-set_other, get_or-set_same}
+use Rattle.std.proofs.Common.{◌≡◌, ℕ, zero, suc, ◌+◌, ◌-◌, ◌/◌, ◌%◌, ◌^◌, ◌<◌, ◌≤◌, ◌≢◌, ◌⊎◌, ltb, leb, inl, inr}
+use Rattle.std.proofs.Common.{Bool, true, false, cond, ◌&&◌, List, length, set, Some, None, refl, ◌∙◌}
+use Rattle.std.proofs.Common.{add-zero, div-one, arith, get_or-set_other, get_or-set_same}
 use Rattle.std.proofs.lemmas.List.{length-set}
 use Rattle.std.proofs.lemmas.Bool.{cases_eq, le-leb, leb-true}
 use Rattle.std.proofs.lemmas.Bool.Decides.{nat_tests}
@@ -19,7 +21,8 @@ unfolding filled
 filled_length at zero d bs = refl
 filled_length at (suc n) d bs = length-set (filled at n d bs) (at + n) (d / 256 ^ n % 256) ∙ filled_length at n d bs
 
-held-set_same : (base : ℕ) (bs : List ℕ) (i v x : ℕ) → i < length bs → x ≡ base + i → held base (set bs i v) x ≡ v % 256
+held-set_same : (base : ℕ) (bs : List ℕ) (i v x : ℕ) → i < length bs → x ≡ base + i
+    → held base (set bs i v) x ≡ v % 256
 held-set_same base bs i v x h e =
     let at : x - base ≡ i = omega arith in
     let past : leb base x ≡ true = le-leb base x (omega arith) in
@@ -35,7 +38,8 @@ held-set_other base bs i v x h = go (leb base x) refl
         let ne : x - base ≢ i = omega arith in
         rw (get_or-set_other bs i (x - base) v 0 ne)
 
-pub held-filled : (base : ℕ) (bs : List ℕ) (at n d x : ℕ) → at + n ≤ length bs → held base (filled at n d bs) x ≡ stored (base + at) n d (held base bs) x
+pub held-filled : (base : ℕ) (bs : List ℕ) (at n d x : ℕ) → at + n ≤ length bs
+    → held base (filled at n d bs) x ≡ stored (base + at) n d (held base bs) x
 unfolding filled
 held-filled base bs at zero d x h =
     let none : (leb (base + at) x && ltb x (base + at + 0)) ≡ false = grind (arith, nat_tests) in
@@ -56,21 +60,28 @@ held-filled base bs at (suc n) d x h =
         let place : x - (base + at) ≡ n = omega arith in
         held-set_same base before (at + n) (d / 256 ^ n % 256) x fits e ∙ rw (within, place) (omega arith)
 
+    level : (x ≡ base + (at + n) → ⊥)
+        → (leb (base + at) x && ltb x (base + at + suc n)) ≡ (leb (base + at) x && ltb x (base + at + n))
+    level ne = grind (arith, nat_tests)
+
     other : held base before x ≡ stored (base + at) n d (held base bs) x → (x ≡ base + (at + n) → ⊥) → Goal
     other rest ne =
-        let level : (leb (base + at) x && ltb x (base + at + suc n)) ≡ (leb (base + at) x && ltb x (base + at + n)) = grind (arith, nat_tests) in
-        held-set_other base before (at + n) (d / 256 ^ n % 256) x ne ∙ rw level rest
+        held-set_other base before (at + n) (d / 256 ^ n % 256) x ne ∙ rw (level ne) rest
 
-    next : held base before x ≡ stored (base + at) n d (held base bs) x → (x ≡ base + (at + n)) ⊎ (x ≡ base + (at + n) → ⊥) → Goal
+    next : held base before x ≡ stored (base + at) n d (held base bs) x
+        → (x ≡ base + (at + n)) ⊎ (x ≡ base + (at + n) → ⊥) → Goal
     next rest (inl e) = same e
     next rest (inr ne) = other rest ne
 
 -- a place that `offset` gave
-pub inside : (base n w at : ℕ) → Some at ≡ cond (outside base n w) None (Some (w - base)) → (outside base n w ≡ false) × (w ≡ base + at) × (at + 4 ≤ n)
+pub inside : (base n w at : ℕ) → Some at ≡ cond (outside base n w) None (Some (w - base))
+    → (outside base n w ≡ false) × (w ≡ base + at) × (at + 4 ≤ n)
 inside base n w at e = grind (arith, nat_tests)
 
 -- the list that a write leaves, width by width
-pub filled_word : (at d : ℕ) (bs : List ℕ) → set (set (set (set bs at (d % 256)) (at + 1) (d / 256 % 256)) (at + 2) (d / 65536 % 256)) (at + 3) (d / 16777216 % 256) ≡ filled at 4 d bs
+pub filled_word : (at d : ℕ) (bs : List ℕ)
+    → set (set (set (set bs at (d % 256)) (at + 1) (d / 256 % 256)) (at + 2) (d / 65536 % 256))
+    (at + 3) (d / 16777216 % 256) ≡ filled at 4 d bs
 unfolding filled
 filled_word at d bs = rw (add-zero, div-one)
 
@@ -83,10 +94,12 @@ unfolding filled
 filled_byte at d bs = rw (add-zero, div-one)
 
 -- what a write does with the bytes of its word, at any width
-pub moves : (base address d at start : ℕ) (w : Width) (bs out : List ℕ) → Some at ≡ cond (outside base (length bs) (word_of address)) None (Some (word_of address - base))
-    → base + start ≡ first w address → start + size w ≤ length bs → out ≡ filled start (size w) d bs → Moves base bs (writing w address d) (Done 0) base out
+pub moves : (base address d at start : ℕ) (w : Width) (bs out : List ℕ)
+    → Some at ≡ cond (outside base (length bs) (word_of address)) None (Some (word_of address - base))
+    → base + start ≡ first w address → start + size w ≤ length bs → out ≡ filled start (size w) d bs
+    → Moves base bs (writing w address d) (Done 0) base out
 moves base address d at start w bs out got from fits is =
-    let inner : outside base (length bs) (word_of address) ≡ false = (inside base (length bs) (word_of address) at got).0 in
+    let inner = (inside base (length bs) (word_of address) at got).0 in
     record {
       based = refl;
       sized = rw is (filled_length start (size w) d bs);

@@ -11,7 +11,8 @@ missing base bytes address = outside base (length (placed base bytes)) (word_of 
 
 -- the word of an address in bytes at a base
 abbrev pub word_in : ℕ → List ℕ → ℕ → Option ℕ
-word_in base bytes address = cond (missing base bytes address) None (Some (word_at (held base bytes) (word_of address)))
+word_in base bytes address =
+    cond (missing base bytes address) None (Some (word_at (held base bytes) (word_of address)))
 
 -- as many bytes with another word in the place of the old one; they are as they were where there is no such word
 pub record Replaced (base : ℕ) (bytes : List ℕ) (address : ℕ) (word : ℕ) (bytes' : List ℕ) : Type 0 where

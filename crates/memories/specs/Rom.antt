@@ -22,4 +22,5 @@ rom_means s = rom s.region.base s.region.bytes.now
 
 -- the answer is determined, and nothing changes
 abbrev pub RomSteps : Rom → Request → Answer → Rom → Type 0
-RomSteps s q a t = (t.region.base ≡ s.region.base) × (t.region.bytes.now ≡ s.region.bytes.now) × (a ≡ answer (rom_means s) q)
+RomSteps s q a t =
+    (t.region.base ≡ s.region.base) × (t.region.bytes.now ≡ s.region.bytes.now) × (a ≡ answer (rom_means s) q)

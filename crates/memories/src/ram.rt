@@ -1,8 +1,8 @@
 //! RAM: the caller's bytes at a base.
 
 ghost use Rattle.std.specs.Prelude.{◌≡◌, ◌-◌, length};
+ghost use Rattle.bus.specs.Meaning.{Keeps};
 ghost use Rattle.bus.specs.Request.{word_of, first, writing};
-ghost use Rattle.memories.specs.Keeps.Region.{ram_keeps};
 ghost use Rattle.memories.specs.Placement.{placed};
 ghost use Rattle.memories.specs.Ram.{RamSteps, ram_means};
 ghost use Rattle.memories.specs.Region.{Moves, ram};
@@ -36,7 +36,8 @@ impl<'a> Ram<'a> {
         ensures means { ram_means result ≡ ram base (placed base bytes.old) }
         ensures base { result.base ≡ base }
         ensures bytes { result.bytes.now ≡ placed base bytes.old }
-        ensures same_reference { length (placed base bytes.old) ≡ length bytes.old → result.bytes.ghost_name ≡ bytes.entry.ghost_name }
+        ensures same_reference { length (placed base bytes.old) ≡ length bytes.old
+            → result.bytes.ghost_name ≡ bytes.entry.ghost_name }
     {
         let length = placed_length(base, bytes.len());
         if length == bytes.len() {
@@ -63,7 +64,8 @@ impl Ram<'_> {
 
     fn write(&mut self, width: Width, address: u32, data: u32) -> Answer
         ensures same_reference { self.new.bytes.ghost_name ≡ self.old.bytes.ghost_name }
-        ensures moves { Moves self.old.base self.old.bytes.now (writing width address «data») result self.new.base self.new.bytes.now }
+        ensures moves { Moves self.old.base self.old.bytes.now (writing width address «data»)
+            result self.new.base self.new.bytes.now }
     {
         let Some(at) = self.region().offset(address) else {
             return Answer::BusError;
@@ -103,8 +105,6 @@ impl Bus for Ram<'_> {
 
     ghost steps = { RamSteps };
 
-    ghost keeps = { ram_keeps };
-
     fn request(&mut self, q: Request) -> Answer {
         self.answer(q)
     }
@@ -116,4 +116,8 @@ impl Bus for Ram<'_> {
     fn longest_wait(&self) -> u16 {
         LONGEST_WAIT
     }
+
+    fn keeps()
+        ensures { Keeps ram_means RamSteps }
+    {}
 }

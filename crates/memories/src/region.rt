@@ -21,7 +21,9 @@ pub(crate) struct Region<'a> {
 impl Region<'_> {
     /// Where the word of an address begins within the range, or none where it lies outside.
     pub(crate) fn offset(&self, address: u32) -> Option<usize>
-        ensures { result ≡ (if outside self.now.base (length self.now.bytes.now) (word_of address) then None else Some (word_of address - self.now.base)) }
+        ensures { result ≡ (if outside self.now.base (length self.now.bytes.now) (word_of address)
+            then None
+            else Some (word_of address - self.now.base)) }
     {
         let at = word_of(address).checked_sub(self.base)? as usize;
         (at + 4 <= self.bytes.len()).then_some(at)
@@ -29,7 +31,9 @@ impl Region<'_> {
 
     /// The word of an address.
     pub(crate) fn read(&self, address: u32) -> Answer
-        ensures { result ≡ (if outside self.now.base (length self.now.bytes.now) (word_of address) then BusError else Done (word_at (held self.now.base self.now.bytes.now) (word_of address))) }
+        ensures { result ≡ (if outside self.now.base (length self.now.bytes.now) (word_of address)
+            then BusError
+            else Done (word_at (held self.now.base self.now.bytes.now) (word_of address))) }
     {
         let Some(at) = self.offset(address) else {
             return Answer::BusError;

@@ -1,7 +1,7 @@
 //! ROM: the caller's bytes at a base, never written.
 
 ghost use Rattle.std.specs.Prelude.{◌≡◌};
-ghost use Rattle.memories.specs.Keeps.Region.{rom_keeps};
+ghost use Rattle.bus.specs.Meaning.{Keeps};
 ghost use Rattle.memories.specs.Placement.{placed};
 ghost use Rattle.memories.specs.Rom.{RomSteps, rom, rom_means};
 
@@ -35,8 +35,6 @@ impl Bus for Rom<'_> {
 
     ghost steps = { RomSteps };
 
-    ghost keeps = { rom_keeps };
-
     fn request(&mut self, q: Request) -> Answer {
         match q.action {
             Action::Read => self.region.read(q.address),
@@ -51,4 +49,8 @@ impl Bus for Rom<'_> {
     fn longest_wait(&self) -> u16 {
         LONGEST_WAIT
     }
+
+    fn keeps()
+        ensures { Keeps rom_means RomSteps }
+    {}
 }

@@ -1,7 +1,6 @@
 //! Scratch: 64 words of its own at a base, zero at first.
 
 ghost use Rattle.std.specs.Prelude.{◌≡◌, replicate};
-ghost use Rattle.memories.specs.Keeps.Region.{scratch_keeps};
 ghost use Rattle.memories.specs.Placement.{placed};
 ghost use Rattle.memories.specs.Region.{ram};
 ghost use Rattle.memories.specs.Scratch.{ScratchSteps, scratch_means};
@@ -40,8 +39,6 @@ impl Bus for Scratch {
 
     ghost steps = { ScratchSteps };
 
-    ghost keeps = { scratch_keeps };
-
     fn request(&mut self, q: Request) -> Answer {
         let base = self.base;
         match &mut self.bytes {
@@ -59,4 +56,6 @@ impl Bus for Scratch {
     fn longest_wait(&self) -> u16 {
         LONGEST_WAIT
     }
+
+    fn keeps() {}
 }

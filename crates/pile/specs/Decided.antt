@@ -4,7 +4,7 @@ use Rattle.bus.specs.Meaning.{Meaning, after, stalled}
 use Rattle.bus.specs.Request.{access_of, same}
 use Rattle.bus.specs.declared.request.Request.{Request}
 
--- what it means after a request: a wait takes one from the waits of its own request, and all others are then the longest
+-- what it means after a request: a wait takes one from the waits of its own request, and all others are the longest
 abbrev pub next : Meaning → Request → Meaning
 next m q =
     record {

@@ -5,6 +5,7 @@ ghost use Rattle.bus.specs.Decided.{Decided};
 ghost use Rattle.pile.specs.Decided.{next};
 ghost use Rattle.pile.specs.Job.{PileSteps, high_length, job_pile, low_length, pile_means};
 
+use bus::memory::Bus;
 use layers::delay::Delay;
 use layers::split::Split;
 use memories::ram::Ram;
@@ -55,4 +56,6 @@ impl Memories {
 /// above call it for its contract. `Decided` is of `Rattle.bus.specs.Decided`.
 pub fn goes_on()
     ensures { Decided pile_means PileSteps next }
-{}
+{
+    Pile::keeps();
+}

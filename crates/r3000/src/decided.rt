@@ -8,4 +8,6 @@ use bus::memory::Bus;
 /// it has its contract.
 pub fn cycles_as_decided<B: Bus>()
     ensures { CyclesAsDecided B.Bus.means B.Bus.steps }
-{}
+{
+    B::keeps();
+}

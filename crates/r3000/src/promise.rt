@@ -10,6 +10,7 @@ use microprogram::bounds::longest_path;
 pub fn promise<B: Bus>()
     ensures { (start : B) → Kept B.Bus.means B.Bus.steps start }
 {
+    B::keeps();
     let _ = longest_path();
     let _ = longest_step();
 }

@@ -1,7 +1,9 @@
 -- What a layer keeps that hands a request on to the memory below it. Assumes nothing.
-use Rattle.std.specs.Prelude.{◌≡◌, ℕ, ◌+◌, ◌-◌, ◌%◌, ◌<◌, ◌≤◌, Bool, true, false, cond, ◌&&◌, ltb, leb, ◌⊎◌, ◌≢◌, nat_le, nat_lt, refl}
+use Rattle.std.specs.Prelude.{◌≡◌, ℕ, ◌+◌, ◌-◌, ◌%◌, ◌<◌, ◌≤◌, ltb, leb, ◌⊎◌, ◌≢◌, refl}
+use Rattle.std.specs.Prelude.{Bool, true, false, cond}
 use Rattle.std.proofs.Common.{inl, inr, sym, ◌∙◌, add-zero, arith}
-use Rattle.std.proofs.lemmas.Bool.{and_right, cases_eq, cases_lt, le-leb, le-ltb, lt-leb}
+use Rattle.std.proofs.lemmas.Bool.{cases_eq}
+use Rattle.std.proofs.lemmas.Bool.Decides.{nat_tests}
 use Rattle.bus.specs.Meaning.{Answers, Meaning, after, answer, carried, refused, stalled, stored, word_at, written}
 use Rattle.bus.specs.Request.{access_of, first, size, word_of}
 use Rattle.bus.specs.declared.request.Action.{Action}
@@ -15,23 +17,12 @@ use Rattle.bus.specs.declared.request.Width.TheVariants.{Word, Half, Byte}
 abbrev pub request : ℕ → Action → Request
 request address x = record { address = address; action = x }
 
--- two tests agree where each order gives the other
-pub same_order : (a b c d : ℕ) → (a ≤ b → c ≤ d) → (c ≤ d → a ≤ b) → nat_le a b ≡ nat_le c d
-same_order a b c d there back = go (cases_lt b a)
-  where
-    go : (b < a) ⊎ (a ≤ b) → nat_le a b ≡ nat_le c d
-    go (inl l) = lt-leb a b l ∙ sym (lt-leb c d (apart (cases_lt d c)))
-      where
-        apart : (d < c) ⊎ (c ≤ d) → d < c
-        apart (inl k) = k
-        apart (inr k) = let o : a ≤ b = back k in omega arith
-    go (inr l) = le-leb a b l ∙ sym (le-leb c d (there l))
-
 -- where in its word a write begins
 lane : Width → ℕ → ℕ
 lane w address = address % 4 - address % size w
 
-lane_fits : (w : Width) (address : ℕ) → (first w address ≡ word_of address + lane w address) × (lane w address + size w ≤ 4)
+lane_fits : (w : Width) (address : ℕ)
+    → (first w address ≡ word_of address + lane w address) × (lane w address + size w ≤ 4)
 unfolding lane
 lane_fits Word address = (omega arith, omega arith)
 lane_fits Half address = (omega arith, omega arith)
@@ -44,24 +35,18 @@ same_lane Half address to low = omega arith
 same_lane Byte address to low = omega arith
 
 -- a write changes nothing outside the word of its address
-apart : (w : Width) (address d x : ℕ) (byte : ℕ → ℕ) → (word_of x ≢ word_of address) → stored (first w address) (size w) d byte x ≡ byte x
-apart w address d x byte ne = go (cases_lt x (word_of address))
-  where
-    fits : (first w address ≡ word_of address + lane w address) × (lane w address + size w ≤ 4)
-    fits = lane_fits w address
-
-    go : (x < word_of address) ⊎ (word_of address ≤ x) → stored (first w address) (size w) d byte x ≡ byte x
-    go (inl l) = rw (lt-leb (first w address) x (omega (arith, fits.0)))
-    go (inr l) =
-        let past : word_of address + 4 ≤ x = omega arith in
-        let none : (nat_le (first w address) x && nat_lt x (first w address + size w)) ≡ false = and_right (nat_le (first w address) x) (nat_lt x (first w address + size w)) (le-ltb x (first w address + size w) (omega (arith, fits.0, fits.1))) in
-        rw none
+apart : (w : Width) (address d x : ℕ) (byte : ℕ → ℕ) → (word_of x ≢ word_of address)
+    → stored (first w address) (size w) d byte x ≡ byte x
+apart w address d x byte ne =
+    let fits = lane_fits w address in
+    grind (arith, nat_tests)
 
 either : (b : Bool) (n : ℕ) → cond b n n ≡ n
 either true n = refl
 either false n = refl
 
-pub elsewhere : (m : Meaning) (address : ℕ) (y : Action) (x : ℕ) → (word_of x ≢ word_of address) → after m (request address y) x ≡ m.byte x
+pub elsewhere : (m : Meaning) (address : ℕ) (y : Action) (x : ℕ) → (word_of x ≢ word_of address)
+    → after m (request address y) x ≡ m.byte x
 elsewhere m address action.Read x ne = either _ _
 elsewhere m address (action.Write w d) x ne = rw (apart w address d x m.byte ne) (either _ _)
 
@@ -91,25 +76,28 @@ module _ {m p : Meaning} {address to : ℕ} where
   pub same_answer : (y : Action) → Through m p address y to → answer m (request address y) ≡ answer p (request to y)
   same_answer y h = rw (h.waits, same_refused y h, same_carried y h)
 
-  same_byte : (y : Action) → Through m p address y to → (x x' : ℕ) → word_of x ≡ word_of address → x' ≡ word_of to + x % 4 → m.byte x ≡ p.byte x'
+  same_byte : (y : Action) → Through m p address y to → (x x' : ℕ) → word_of x ≡ word_of address
+      → x' ≡ word_of to + x % 4 → m.byte x ≡ p.byte x'
   same_byte y h x x' here there =
       let from : word_of address + x % 4 ≡ x = omega arith in
       let low : x % 4 < 4 = omega arith in
       rw there (rw from at (h.bytes (x % 4) low))
 
-  same_written : (y : Action) → Through m p address y to → (x x' : ℕ) → word_of x ≡ word_of address → x' ≡ word_of to + x % 4 → written m (request address y) x ≡ written p (request to y) x'
+  same_written : (y : Action) → Through m p address y to → (x x' : ℕ) → word_of x ≡ word_of address
+      → x' ≡ word_of to + x % 4 → written m (request address y) x ≡ written p (request to y) x'
   same_written action.Read h x x' here there = same_byte action.Read h x x' here there
   same_written (action.Write w d) h x x' here there =
       let fits = lane_fits w address in
       let fits' = lane_fits w to in
       let level = same_lane w address to h.low in
-      let from : leb (first w address) x ≡ leb (first w to) x' = same_order _ _ _ _ (λ l. omega arith) (λ l. omega arith) in
-      let until : ltb x (first w address + size w) ≡ ltb x' (first w to + size w) = same_order _ _ _ _ (λ l. omega arith) (λ l. omega arith) in
+      let from : leb (first w address) x ≡ leb (first w to) x' = grind (arith, nat_tests) in
+      let until : ltb x (first w address + size w) ≡ ltb x' (first w to + size w) = grind (arith, nat_tests) in
       let place : x - first w address ≡ x' - first w to = omega arith in
       rw (from, until, place, same_byte (action.Write w d) h x x' here there)
 
   -- and leaves in the word what the memory below leaves there
-  pub same_after : (y : Action) → Through m p address y to → (x x' : ℕ) → word_of x ≡ word_of address → x' ≡ word_of to + x % 4 → after m (request address y) x ≡ after p (request to y) x'
+  pub same_after : (y : Action) → Through m p address y to → (x x' : ℕ) → word_of x ≡ word_of address
+      → x' ≡ word_of to + x % 4 → after m (request address y) x ≡ after p (request to y) x'
   same_after y h x x' here there =
       rw (h.waits, same_refused y h, same_byte y h x x' here there, same_written y h x x' here there)
 
@@ -125,17 +113,22 @@ pub record Beside (m m' : Meaning) (address x : ℕ) : Type 0 where
   pub stays : m'.byte x ≡ m.byte x
   pub apart : word_of x ≡ word_of address → ⊥
 
+-- what becomes of an address of the layer
+abbrev pub Seen : (m m' p p' : Meaning) (address to x : ℕ) → Type 0
+Seen m m' p p' address to x = ((x' : ℕ) × Stands m m' p p' address to x x') ⊎ Beside m m' address x
+
 -- a layer before and after it handed a request on from an address to another
 pub record HandsOn (m m' p p' : Meaning) (address : ℕ) (y : Action) (to : ℕ) (a : Answer) : Type 0 where
   pub through : Through m p address y to
-  pub seen : (x : ℕ) → ((x' : ℕ) × Stands m m' p p' address to x x') ⊎ Beside m m' address x
+  pub seen : (x : ℕ) → Seen m m' p p' address to x
   pub waits : a ≡ Wait → m'.waits (access_of (request address y)) ≡ p'.waits (access_of (request to y))
   pub unreadable : (w : ℕ) → m'.unreadable w ≡ m.unreadable w
   pub unwritable : (w : ℕ) → m'.unwritable w ≡ m.unwritable w
   pub longest : m'.longest ≡ m.longest
 
-module _ {m m' p p' : Meaning} {address : ℕ} {y : Action} {to : ℕ} {a : Answer} (h : HandsOn m m' p p' address y to a) (below : Answers p (request to y) a p') where
-  bytes : (x : ℕ) → ((x' : ℕ) × Stands m m' p p' address to x x') ⊎ Beside m m' address x → m'.byte x ≡ after m (request address y) x
+module _ {m m' p p' : Meaning} {address : ℕ} {y : Action} {to : ℕ} {a : Answer}
+    (h : HandsOn m m' p p' address y to a) (below : Answers p (request to y) a p') where
+  bytes : (x : ℕ) → Seen m m' p p' address to x → m'.byte x ≡ after m (request address y) x
   bytes x (inr o) = o.stays ∙ sym (elsewhere m address y x o.apart)
   bytes x (inl s) = go (cases_eq (word_of x) (word_of address))
     where
@@ -148,7 +141,8 @@ module _ {m m' p p' : Meaning} {address : ℕ} {y : Action} {to : ℕ} {a : Answ
           ∙ sym s.1.before
           ∙ sym (elsewhere m address y x off)
 
-  counted : stalled p (request to y) ≡ true → m'.waits (access_of (request address y)) + 1 ≡ m.waits (access_of (request address y))
+  counted : stalled p (request to y) ≡ true
+      → m'.waits (access_of (request address y)) + 1 ≡ m.waits (access_of (request address y))
   counted t =
       let waited : a ≡ Wait = below.answered ∙ rw t in
       rw (h.waits waited, h.through.waits) (below.counted t)

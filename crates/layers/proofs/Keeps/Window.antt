@@ -1,8 +1,9 @@
 -- Window means something sound, and its steps keep points 1 to 4 of the bus. Assumes nothing.
-use Rattle.std.specs.Prelude.{◌≡◌, ℕ, ◌+◌, ◌/◌, ◌%◌, ◌^◌, ◌<◌, ◌≤◌, Bool, true, false, cond, ◌⊎◌, MatchBool, nat_lt, refl}
+use Rattle.std.specs.Prelude.{◌≡◌, ℕ, ◌+◌, ◌/◌, ◌%◌, ◌^◌, ◌<◌, ◌≤◌, ◌⊎◌, nat_lt, refl}
+use Rattle.std.specs.Prelude.{Bool, true, false, cond, MatchBool}
 use Rattle.std.proofs.Common.{inl, inr, sym, ap, subst₂, ◌∙◌, arith}
 use Rattle.std.proofs.lemmas.Bool.{both_ways, cases_Bool, cases_order, false≢true, le-ltb, lt-ltb, ltb-false, ltb-true}
-use Rattle.layers.specs.Keeps.Layer.{Beside, Stands, layer, request}
+use Rattle.layers.proofs.Keeps.Layer.{Seen, layer, request}
 use Rattle.bus.specs.Meaning.{Answers, Keeps, Meaning, Sound, after, answer}
 use Rattle.bus.specs.Request.{moved, word_of}
 use Rattle.layers.specs.Window.{WindowSteps, end, onto, window, window_means}
@@ -21,7 +22,7 @@ or_zero P false n h z = z
 window_sound : (base limit : ℕ) (m : Meaning) → Sound m → Sound (window base limit m)
 window_sound base limit m h =
     record {
-      bytes = λ x. or_zero (λ n. n < 256) (nat_lt x (end limit)) (m.byte (onto base x)) (h.bytes (onto base x)) (omega arith);
+      bytes = λ x. or_zero (λ n. n < 256) (nat_lt x (end limit)) _ (h.bytes (onto base x)) (omega arith);
       waits = λ x. or_zero (λ n. n ≤ m.longest) (nat_lt x.address (end limit)) _ (h.waits _) (omega arith);
       longest = h.longest;
     }
@@ -30,7 +31,9 @@ window_sound base limit m h =
 one_to_one : (base x y : ℕ) → x < 2 ^ 32 → y < 2 ^ 32 → onto base x ≡ onto base y → x ≡ y
 one_to_one base x y h k e = go (cases_order ((word_of base + x) / 2 ^ 32) ((word_of base + y) / 2 ^ 32))
   where
-    go : ((word_of base + x) / 2 ^ 32 ≡ (word_of base + y) / 2 ^ 32) ⊎ (((word_of base + x) / 2 ^ 32 < (word_of base + y) / 2 ^ 32) ⊎ ((word_of base + y) / 2 ^ 32 < (word_of base + x) / 2 ^ 32)) → x ≡ y
+    go : ((word_of base + x) / 2 ^ 32 ≡ (word_of base + y) / 2 ^ 32)
+        ⊎ (((word_of base + x) / 2 ^ 32 < (word_of base + y) / 2 ^ 32)
+        ⊎ ((word_of base + y) / 2 ^ 32 < (word_of base + x) / 2 ^ 32)) → x ≡ y
     go (inl l) = omega arith
     go (inr (inl l)) = omega arith
     go (inr (inr l)) = omega arith
@@ -47,7 +50,12 @@ module _ (base limit address : ℕ) where
   moves_within : (x i : ℕ) → i < 4 → onto base (word_of x + i) ≡ word_of (onto base x) + i
   moves_within x i h = omega arith
 
-  asked : (m m' : Meaning) (y : Action) → address < end limit → {a : Answer} → Answers m (request (onto base address) y) a m' → Answers (window base limit m) (request address y) a (window base limit m')
+  from : (x : ℕ) → x ≡ word_of address + x % 4 → onto base x ≡ word_of (onto base address) + x % 4
+  from x e = ap (onto base) e ∙ moves_within address (x % 4) (omega arith)
+
+  asked : (m m' : Meaning) (y : Action) → address < end limit → {a : Answer}
+      → Answers m (request (onto base address) y) a m'
+      → Answers (window base limit m) (request address y) a (window base limit m')
   asked m m' y l h =
       layer (
       record {
@@ -66,17 +74,19 @@ module _ (base limit address : ℕ) where
         longest = h.longest;
       }) h
     where
-      seen : (x : ℕ) → (nat_lt x (end limit) ≡ true) ⊎ (nat_lt x (end limit) ≡ false) → ((x' : ℕ) × Stands (window base limit m) (window base limit m') m m' address (onto base address) x x') ⊎ Beside (window base limit m) (window base limit m') address x
+      seen : (x : ℕ) → (nat_lt x (end limit) ≡ true) ⊎ (nat_lt x (end limit) ≡ false)
+          → Seen (window base limit m) (window base limit m') m m' address (onto base address) x
       seen x (inl t) =
           let k : x < end limit = ltb-true x (end limit) t in
-          let from : x ≡ word_of address + x % 4 → onto base x ≡ word_of (onto base address) + x % 4 = λ e. ap (onto base) e ∙ moves_within address (x % 4) (omega arith) in
           inl (
             onto base x,
             record {
               before = rw t;
               after = rw t;
-              there = λ e. from (omega arith);
-              back = λ e. one_to_one base (word_of x) (word_of address) (omega arith) (omega arith) (sym (moves x) ∙ e ∙ moves address);
+              there = λ e. from x (omega arith);
+              back =
+                  λ e. one_to_one base (word_of x) (word_of address) (omega arith) (omega arith)
+                  (sym (moves x) ∙ e ∙ moves address);
             },
           )
       seen x (inr f) = inr (record { stays = rw f; apart = λ e. both_ways _ f (below l x e) })
@@ -84,15 +94,18 @@ module _ (base limit address : ℕ) where
   above : end limit ≤ address → (x : ℕ) → word_of x ≡ word_of address → nat_lt x (end limit) ≡ false
   above l x e = le-ltb x (end limit) (omega arith)
 
-  refuses : (m : Meaning) (y : Action) → end limit ≤ address → BusError ≡ answer (window base limit m) (request address y)
+  refuses : (m : Meaning) (y : Action) → end limit ≤ address
+      → BusError ≡ answer (window base limit m) (request address y)
   refuses m action.Read l = rw (above l address refl, above l (word_of address) (omega arith))
   refuses m (action.Write w d) l = rw (above l address refl, above l (word_of address) (omega arith))
 
-  leaves : (m : Meaning) (y : Action) → end limit ≤ address → (x : ℕ) → (window base limit m).byte x ≡ after (window base limit m) (request address y) x
+  leaves : (m : Meaning) (y : Action) → end limit ≤ address → (x : ℕ)
+      → (window base limit m).byte x ≡ after (window base limit m) (request address y) x
   leaves m action.Read l x = rw (above l address refl, above l (word_of address) (omega arith))
   leaves m (action.Write w d) l x = rw (above l address refl, above l (word_of address) (omega arith))
 
-  refused : (m : Meaning) (y : Action) → end limit ≤ address → Answers (window base limit m) (request address y) BusError (window base limit m)
+  refused : (m : Meaning) (y : Action) → end limit ≤ address
+      → Answers (window base limit m) (request address y) BusError (window base limit m)
   refused m y l =
       record {
         answered = refuses m y l;
@@ -103,10 +116,13 @@ module _ (base limit address : ℕ) where
         longest = refl;
       }
 
-module _ {A : Type 0} {means : A → Meaning} {steps : A → Request → Answer → A → Type 0} (keeps : Keeps means steps) where
-  tells : (s : Window A) (q : Request) (a : Answer) (t : Window A) → WindowSteps steps s q a t → Answers (window_means means s) q a (window_means means t)
+module _ {A : Type 0} {means : A → Meaning} {steps : A → Request → Answer → A → Type 0}
+    (keeps : Keeps means steps) where
+  tells : (s : Window A) (q : Request) (a : Answer) (t : Window A) → WindowSteps steps s q a t
+      → Answers (window_means means s) q a (window_means means t)
   tells s q a t h =
-      subst₂ (λ b l. Answers m q a (window b l (means t.below))) (sym h.0) (sym h.1) (go (nat_lt q.address (end s.limit)) refl h.2)
+      subst₂ (λ b l. Answers m q a (window b l (means t.below))) (sym h.0) (sym h.1)
+      (go (nat_lt q.address (end s.limit)) refl h.2)
     where
       m : Meaning
       m = window_means means s
@@ -114,12 +130,16 @@ module _ {A : Type 0} {means : A → Meaning} {steps : A → Request → Answer 
       to : Request
       to = moved (onto s.base q.address) q
 
-      go : (b : Bool) → nat_lt q.address (end s.limit) ≡ b → MatchBool b (steps s.below to a t.below) ((a ≡ BusError) × (t.below ≡ s.below)) → Answers m q a (window s.base s.limit (means t.below))
+      go : (b : Bool) → nat_lt q.address (end s.limit) ≡ b
+          → MatchBool b (steps s.below to a t.below) ((a ≡ BusError) × (t.below ≡ s.below))
+          → Answers m q a (window s.base s.limit (means t.below))
       go true e k =
-          asked s.base s.limit q.address (means s.below) (means t.below) q.action (ltb-true _ _ e) (keeps.tells s.below to a t.below k)
+          asked s.base s.limit q.address (means s.below) (means t.below) q.action (ltb-true _ _ e)
+          (keeps.tells s.below to a t.below k)
       go false e k =
           subst₂ (λ x u. Answers m q x (window s.base s.limit (means u))) (sym k.0) (sym k.1)
           (refused s.base s.limit q.address (means s.below) q.action (ltb-false _ _ e))
 
   pub window_keeps : Keeps (window_means means) (WindowSteps steps)
-  window_keeps = record { sound = λ s. window_sound s.base s.limit (means s.below) (keeps.sound s.below); tells = tells }
+  window_keeps =
+      record { sound = λ s. window_sound s.base s.limit (means s.below) (keeps.sound s.below); tells = tells }

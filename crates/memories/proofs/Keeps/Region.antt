@@ -19,7 +19,8 @@ byte false n = omega arith
 ram_sound : (base : ℕ) (bytes : List ℕ) → Sound (ram base bytes)
 ram_sound base bytes = record { bytes = λ address. byte _ _; waits = λ x. omega arith; longest = omega arith }
 
-ram_tells : {base base' : ℕ} {bytes bytes' : List ℕ} {q : Request} {a : Answer} → Moves base bytes q a base' bytes' → Answers (ram base bytes) q a (ram base' bytes')
+ram_tells : {base base' : ℕ} {bytes bytes' : List ℕ} {q : Request} {a : Answer} → Moves base bytes q a base' bytes'
+    → Answers (ram base bytes) q a (ram base' bytes')
 ram_tells h =
     record {
       answered = h.answered;
@@ -37,11 +38,14 @@ same : (b : Bool) (n : ℕ) → n ≡ cond b n n
 same true n = refl
 same false n = refl
 
-unchanged : (base : ℕ) (bytes : List ℕ) (address : ℕ) (x : Action) (at : ℕ) → held base bytes at ≡ after (rom base bytes) (record { address = address; action = x }) at
+unchanged : (base : ℕ) (bytes : List ℕ) (address : ℕ) (x : Action) (at : ℕ)
+    → held base bytes at ≡ after (rom base bytes) (record { address = address; action = x }) at
 unchanged base bytes address action.Read at = same _ _
 unchanged base bytes address (action.Write w d) at = refl
 
-rom_tells : {base base' : ℕ} {bytes bytes' : List ℕ} {q : Request} {a : Answer} → (base' ≡ base) × (bytes' ≡ bytes) × (a ≡ answer (rom base bytes) q) → Answers (rom base bytes) q a (rom base' bytes')
+rom_tells : {base base' : ℕ} {bytes bytes' : List ℕ} {q : Request} {a : Answer}
+    → (base' ≡ base) × (bytes' ≡ bytes) × (a ≡ answer (rom base bytes) q)
+    → Answers (rom base bytes) q a (rom base' bytes')
 rom_tells {base} {base'} {bytes} {bytes'} {q} {a} h =
     record {
       answered = h.2;

@@ -4,7 +4,7 @@ use Rattle.std.proofs.Common.{inl, sym, ap, subst, arith}
 use Rattle.std.proofs.Math.Path.{subst₃}
 use Rattle.std.proofs.lemmas.Bool.{and_from, eq-eqb, lt-ltb, ltb-false, ltb-true}
 use Rattle.layers.specs.Delay.{DelaySteps, delay, delay_means, ended, left, lowered}
-use Rattle.layers.specs.Keeps.Layer.{layer, request}
+use Rattle.layers.proofs.Keeps.Layer.{layer, request}
 use Rattle.bus.specs.Meaning.{Answers, Keeps, Meaning, Sound}
 use Rattle.bus.specs.Request.{access_of, same, kind_number}
 use Rattle.layers.specs.declared.delay.Delay.{Delay}
@@ -41,12 +41,13 @@ left_self n c x h = rw (same_self x) (omega arith)
 
 -- while the count is above 0
 waits : (n : ℕ) (state : State) (m : Meaning) (q : Request) → 0 < left (lowered n m.longest) state (access_of q)
-    → Answers (delay n state m) q Wait (delay n (Counting (access_of q) (left (lowered n m.longest) state (access_of q) - 1)) m)
+    → Answers (delay n state m) q Wait
+    (delay n (Counting (access_of q) (left (lowered n m.longest) state (access_of q) - 1)) m)
 waits n state m q h =
     record {
       answered = rw stalls;
       bytes = λ x. rw stalls;
-      counted = λ e. rw (left_self k (c - 1) (access_of q) (omega (arith, left_bound k state (access_of q)))) (omega arith);
+      counted = λ e. rw (left_self k (c - 1) (access_of q) falls) (omega arith);
       unreadable = λ w. refl;
       unwritable = λ w. refl;
       longest = refl;
@@ -58,25 +59,33 @@ waits n state m q h =
     c : ℕ
     c = left k state (access_of q)
 
+    falls : c - 1 ≤ k
+    falls = omega (arith, left_bound k state (access_of q))
+
     stalls : ltb 0 (c + m.waits (access_of q)) ≡ true
     stalls = lt-ltb 0 _ (omega arith)
 
 -- at 0
-asks : (n : ℕ) (state : State) (m m' : Meaning) (address : ℕ) (y : Action) (a : Answer) → left (lowered n m.longest) state (access_of (request address y)) ≡ 0
-    → Answers m (request address y) a m' → Answers (delay n state m) (request address y) a (delay n (ended (access_of (request address y)) a) m')
+asks : (n : ℕ) (state : State) (m m' : Meaning) (address : ℕ) (y : Action) (a : Answer)
+    → left (lowered n m.longest) state (access_of (request address y)) ≡ 0
+    → Answers m (request address y) a m'
+    → Answers (delay n state m) (request address y) a (delay n (ended (access_of (request address y)) a) m')
 asks n state m m' address y a z h =
     layer (
     record {
-      through = record { waits = rw z (omega arith); unreadable = refl; unwritable = refl; low = refl; bytes = λ i s. refl };
+      through =
+          record { waits = rw z (omega arith); unreadable = refl; unwritable = refl; low = refl; bytes = λ i s. refl };
       seen = λ x. inl (x, record { before = refl; after = refl; there = λ k. omega arith; back = λ k. k });
-      waits = λ e. rw (e, left_self (lowered n m'.longest) 0 (access_of (request address y)) (omega arith)) (omega arith);
+      waits = λ e. rw (e, left_self (lowered n m'.longest) 0 _ (omega arith)) (omega arith);
       unreadable = h.unreadable;
       unwritable = h.unwritable;
       longest = ap (λ l. l + lowered n l) h.longest;
     }) h
 
-module _ {A : Type 0} {means : A → Meaning} {steps : A → Request → Answer → A → Type 0} (keeps : Keeps means steps) where
-  tells : (s : Delay A) (q : Request) (a : Answer) (t : Delay A) → DelaySteps means steps s q a t → Answers (delay_means means s) q a (delay_means means t)
+module _ {A : Type 0} {means : A → Meaning} {steps : A → Request → Answer → A → Type 0}
+    (keeps : Keeps means steps) where
+  tells : (s : Delay A) (q : Request) (a : Answer) (t : Delay A) → DelaySteps means steps s q a t
+      → Answers (delay_means means s) q a (delay_means means t)
   tells s q a t h =
       subst (λ k. Answers m q a (delay k t.state (means t.below))) (sym h.0) (go (nat_lt 0 c) refl h.1)
     where
@@ -86,13 +95,18 @@ module _ {A : Type 0} {means : A → Meaning} {steps : A → Request → Answer 
       c : ℕ
       c = left (lowered s.n (means s.below).longest) s.state (access_of q)
 
-      go : (b : Bool) → nat_lt 0 c ≡ b → MatchBool b ((a ≡ Wait) × (t.state ≡ Counting (access_of q) (c - 1)) × (t.below ≡ s.below)) (steps s.below q a t.below × (t.state ≡ ended (access_of q) a)) → Answers m q a (delay s.n t.state (means t.below))
+      go : (b : Bool) → nat_lt 0 c ≡ b
+          → MatchBool b
+          ((a ≡ Wait) × (t.state ≡ Counting (access_of q) (c - 1)) × (t.below ≡ s.below))
+          (steps s.below q a t.below × (t.state ≡ ended (access_of q) a))
+          → Answers m q a (delay s.n t.state (means t.below))
       go true e k =
           subst₃ (λ x y u. Answers m q x (delay s.n y (means u))) (sym k.0) (sym k.1) (sym k.2)
           (waits s.n s.state (means s.below) q (ltb-true 0 c e))
       go false e k =
           subst (λ y. Answers m q a (delay s.n y (means t.below))) (sym k.1)
-          (asks s.n s.state (means s.below) (means t.below) q.address q.action a (omega (arith, ltb-false 0 c e)) (keeps.tells s.below q a t.below k.0))
+          (asks s.n s.state (means s.below) (means t.below) q.address q.action a (omega (arith, ltb-false 0 c e))
+          (keeps.tells s.below q a t.below k.0))
 
   pub delay_keeps : Keeps (delay_means means) (DelaySteps means steps)
   delay_keeps = record { sound = λ s. delay_sound s.n s.state (means s.below) (keeps.sound s.below); tells = tells }
