@@ -1,7 +1,7 @@
 -- The microprogram with a memory that never waits. Assumes nothing.
 use Rattle.std.specs.Prelude.{◌≡◌, ℕ, zero, suc, cond, Some, None, Option}
-use Rattle.bus.specs.Meaning.{Meaning, after, answer, refused, stored}
-use Rattle.bus.specs.Request.{first, size}
+use Rattle.bus.specs.Meaning.{Meaning, byte_after, answer, is_refused, stored_byte}
+use Rattle.bus.specs.Request.{first_address, byte_count}
 use Rattle.bus.specs.declared.request.Action.TheVariants as action
 use Rattle.bus.specs.declared.request.Request.{Request}
 use Rattle.std.specs.Option.{option_map}
@@ -15,7 +15,7 @@ pub record World : Type 0 where
   pub state : State
   pub bytes : ℕ → ℕ
 
--- bytes and refused words as a memory with no waits
+-- bytes and is_refused words as a memory with no waits
 abbrev pub still : Refusals → (ℕ → ℕ) → Meaning
 still r bytes = record { byte = bytes; unreadable = r.unreadable; unwritable = r.unwritable; waits = λ x. 0; longest = 0 }
 
@@ -23,15 +23,15 @@ still r bytes = record { byte = bytes; unreadable = r.unreadable; unwritable = r
 abbrev pub asked : Row → State → Option Request
 asked w c = requested c.flag (access c.regs w.transfer (worked w c).0)
 
--- the bytes after a request: only a write that is not refused changes any
+-- the bytes byte_after a request: only a write that is not is_refused changes any
 abbrev pub changed : Meaning → Option Request → ℕ → ℕ
 changed m None = m.byte
 changed m (Some q) =
-    elim q.action [ action.Read ↦ m.byte | action.Write w d ↦ cond (refused m q) m.byte (stored (first w q.address) (size w) d m.byte) ]
+    elim q.action [ action.Read ↦ m.byte | action.Write w d ↦ cond (is_refused m q) m.byte (stored_byte (first_address w q.address) (byte_count w) d m.byte) ]
 
--- that is what the bus says of the bytes after a request
+-- that is what the bus says of the bytes byte_after a request
 abbrev pub StillKeeps : Type 0
-StillKeeps = (r : Refusals) (bytes : ℕ → ℕ) (q : Request) (x : ℕ) → changed (still r bytes) (Some q) x ≡ after (still r bytes) q x
+StillKeeps = (r : Refusals) (bytes : ℕ → ℕ) (q : Request) (x : ℕ) → changed (still r bytes) (Some q) x ≡ byte_after (still r bytes) q x
 
 -- one cycle in a row
 abbrev pub ticked : Row → Refusals → ℕ → World → World

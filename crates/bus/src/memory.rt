@@ -1,7 +1,7 @@
 //! What every memory and every layer promises.
 
 ghost use Rattle.std.specs.Prelude.{◌≡◌};
-ghost use Rattle.bus.specs.Meaning.{Meaning, Keeps, looked};
+ghost use Rattle.bus.specs.Meaning.{Meaning, Keeps, look_result};
 ghost use Rattle.bus.specs.declared.request.Answer.{Answer};
 ghost use Rattle.bus.specs.declared.request.Request.{Request};
 
@@ -24,7 +24,7 @@ pub trait Bus {
 
     /// The byte at an address, or none where its word is refused to reads.
     fn look(&self, address: u32) -> Option<u8>
-        ensures { result ≡ looked (means self.now) address };
+        ensures { result ≡ look_result (means self.now) address };
 
     /// The most waits that any request can have.
     fn longest_wait(&self) -> u16

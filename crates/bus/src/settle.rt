@@ -2,7 +2,7 @@
 
 ghost use Rattle.std.specs.Prelude.{◌≡◌};
 ghost use Rattle.bus.specs.Decided.{SettlesAsDecided};
-ghost use Rattle.bus.specs.Settled.{Settles, ending};
+ghost use Rattle.bus.specs.Settled.{Settles, end_of};
 
 use super::memory::Bus;
 use super::request::{Answer, Request};
@@ -22,7 +22,7 @@ pub struct Settled {
 
 /// How the answer ends the request; a wait does not.
 fn end(request: Request, answer: Answer) -> Option<Result<u32, BusFault>>
-    ensures { result ≡ ending request answer }
+    ensures { result ≡ end_of request answer }
 {
     match answer {
         Answer::Wait => None,
@@ -51,5 +51,4 @@ pub fn settle<B: Bus>(bus: &mut B, request: Request) -> Settled
 /// its contract.
 pub fn settles_as_decided<B: Bus>()
     ensures { SettlesAsDecided B.Bus.means B.Bus.steps }
-{
-}
+{}

@@ -29,9 +29,9 @@ pub data LateEffect : Type 0 where
   reply_with : Reply → LateEffect
 
 -- the effect of a call that the core grants; what it denies is denied
-abbrev pub granted : {A : Type 0} → (A → LateEffect) → Result A Denial → Result LateEffect JobFault
-granted effect (Ok a) = Ok (effect a)
-granted effect (Err d) = Err (fault.Core d)
+abbrev pub effect_if_granted : {A : Type 0} → (A → LateEffect) → Result A Denial → Result LateEffect JobFault
+effect_if_granted effect (Ok a) = Ok (effect a)
+effect_if_granted effect (Err d) = Err (fault.Core d)
 
 -- what a kind of line does: before the start; and after it, by the processor and the counts
 pub record Decision : Type 0 where
@@ -44,11 +44,11 @@ decision (order.Load address word) =
     record { before = Ok (store address word); after = λ p counts. Err fault.AfterStart }
 decision order.Start = record { before = Ok power_up; after = λ p counts. Err fault.AfterStart }
 decision (order.Lines n) =
-    record { before = Err fault.BeforeStart; after = λ p counts. granted (λ u. set_lines n) (lines_reply n) }
+    record { before = Err fault.BeforeStart; after = λ p counts. effect_if_granted (λ u. set_lines n) (lines_reply n) }
 decision (order.Run n) =
-    record { before = Err fault.BeforeStart; after = λ p counts. granted (λ u. make_cycles n) (check_run n counts) }
+    record { before = Err fault.BeforeStart; after = λ p counts. effect_if_granted (λ u. make_cycles n) (check_run n counts) }
 decision (order.Show n) =
     record {
       before = Err fault.BeforeStart;
-      after = λ p counts. granted (λ w. reply_with (reply.Shown n w)) (register_reply n p.state);
+      after = λ p counts. effect_if_granted (λ w. reply_with (reply.Shown n w)) (register_reply n p.state);
     }

@@ -1,7 +1,7 @@
 -- ROM: the caller's bytes at a base, never written. Assumes nothing.
 use Rattle.std.specs.Prelude.{◌≡◌, ℕ, true, List, length}
 use Rattle.bus.specs.Meaning.{Meaning, answer}
-use Rattle.memories.specs.Region.{held, outside}
+use Rattle.memories.specs.Region.{byte_at, is_outside}
 use Rattle.bus.specs.declared.request.Answer.{Answer}
 use Rattle.bus.specs.declared.request.Request.{Request}
 use Rattle.memories.specs.declared.rom.Rom.{Rom}
@@ -10,8 +10,8 @@ use Rattle.memories.specs.declared.rom.Rom.{Rom}
 abbrev pub rom : ℕ → List ℕ → Meaning
 rom base bytes =
     record {
-      byte = held base bytes;
-      unreadable = outside base (length bytes);
+      byte = byte_at base bytes;
+      unreadable = is_outside base (length bytes);
       unwritable = λ w. true;
       waits = λ x. 0;
       longest = 0;

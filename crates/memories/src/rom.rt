@@ -2,7 +2,7 @@
 
 ghost use Rattle.std.specs.Prelude.{◌≡◌};
 ghost use Rattle.bus.specs.Meaning.{Keeps};
-ghost use Rattle.memories.specs.Placement.{placed};
+ghost use Rattle.memories.specs.Placement.{placed_bytes};
 ghost use Rattle.memories.specs.Rom.{RomSteps, rom, rom_means};
 
 use super::placement::placed_length;
@@ -18,7 +18,7 @@ pub struct Rom<'a> {
 impl<'a> Rom<'a> {
     /// ROM that stands at `base`; one at a denied placement refuses everything.
     pub fn new(base: u32, bytes: &'a [u8]) -> Rom<'a>
-        ensures { rom_means result ≡ rom base (placed base bytes.now) }
+        ensures { rom_means result ≡ rom base (placed_bytes base bytes.now) }
     {
         let length = placed_length(base, bytes.len());
         Rom {

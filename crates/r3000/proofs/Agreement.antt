@@ -9,10 +9,10 @@ use Rattle.book.specs.Instant.{World, asked, tick, ticks}
 use Rattle.book.specs.Length.{length_of}
 use Rattle.book.specs.Path.{Fit, Stands, Walks, ends_path, stand}
 use Rattle.microprogram.specs.Cycle.{State, advanced, ends, powered}
-use Rattle.r3000.specs.Counts.{counted}
-use Rattle.r3000.specs.Cycle.{Cycle, asked_by}
-use Rattle.r3000.specs.Machine.{History, Machine, built, fresh, hand, with_lines}
-use Rattle.r3000.specs.Promise.{Agrees, book_after, lengths, refusals}
+use Rattle.r3000.specs.Counts.{report_after}
+use Rattle.r3000.specs.Cycle.{Cycle, next_request}
+use Rattle.r3000.specs.Machine.{History, Machine, core_at_power_up, no_history, current_row, with_lines}
+use Rattle.r3000.specs.Promise.{Agrees, book_after, total_length, refusals}
 use Rattle.r3000.proofs.Below.{Below}
 use Rattle.r3000.proofs.Answered.{fixed, no_tick, one_tick, world}
 use Rattle.r3000.proofs.Parts.{history_of, report_of}
@@ -53,9 +53,9 @@ module _ {S : Type 0} {means : S → Meaning} {steps : S → Request → Answer 
     pub ticked : (l : ℕ) → world below.memory keeps c ≡ ticks (refusals (means start)) l c.observed.report.place from
     pub short : c.observed.report.place < length_of (book h) (book h).event
     pub boundaries : length h.lines ≡ c.observed.report.boundaries
-    pub sum : c.observed.report.cycles ≡ c.observed.report.frozen + lengths (means start) h.lines + c.observed.report.place
+    pub sum : c.observed.report.cycles ≡ c.observed.report.frozen + total_length (means start) h.lines + c.observed.report.place
 
-  pub way_start : OnTheWay fresh (built start)
+  pub way_start : OnTheWay no_history (core_at_power_up start)
   unfolding ticks
   way_start =
       let first : Fit (begun (means start).byte) × Stands (begun (means start).byte) (record { state = powered; bytes = (means start).byte }) = below.begins (means start).byte (keeps.sound start).bytes in
@@ -76,7 +76,7 @@ module _ {S : Type 0} {means : S → Meaning} {steps : S → Request → Answer 
 
   -- what the words that are refused, and the world, are after a cycle
   still_refuses : (h : History) (c d : Machine S) (f : Bool) → Cycle steps c f d → OnTheWay h c → refusals (means d.pile) ≡ refusals (means start)
-  still_refuses h c d f k w = (fixed below.memory keeps c.pile d.pile (asked_by c) k.answer k.asks).0 ∙ w.refuses
+  still_refuses h c d f k w = (fixed below.memory keeps c.pile d.pile (next_request c) k.answer k.asks).0 ∙ w.refuses
 
   next_tick : (h : History) (c d : Machine S) → Cycle steps c false d → OnTheWay h c → world below.memory keeps d ≡ tick (refusals (means start)) c.processor.lines (world below.memory keeps c)
   next_tick h c d k w = one_tick below.memory keeps c d k ∙ ap (λ r. tick r c.processor.lines (world below.memory keeps c)) w.refuses
@@ -92,7 +92,7 @@ module _ {S : Type 0} {means : S → Meaning} {steps : S → Request → Answer 
         ticked = λ l. no_tick below.memory keeps c d k ∙ w.ticked l ∙ ap (λ n. ticks (refusals (means start)) l n.place w.from) (sym (report_of k));
         short = subst (λ n. n.place < length_of (book h) (book h).event) (sym (report_of k)) w.short;
         boundaries = w.boundaries ∙ ap (λ n. n.boundaries) (sym (report_of k));
-        sum = subst (λ n. n.cycles ≡ n.frozen + lengths (means start) h.lines + n.place) (sym (report_of k)) (omega (arith, w.sum));
+        sum = subst (λ n. n.cycles ≡ n.frozen + total_length (means start) h.lines + n.place) (sym (report_of k)) (omega (arith, w.sum));
       }
 
   -- the step of the book that is under way
@@ -100,14 +100,14 @@ module _ {S : Type 0} {means : S → Meaning} {steps : S → Request → Answer 
   walking h c w = below.paths (refusals (means start)) c.processor.lines (book h) w.fit w.from w.stands
 
   -- whether this cycle ends it
-  ending_here : (h : History) (c : Machine S) (w : OnTheWay h c) → ends (hand c.processor.state).sequencing ≡ ends_path (ticks (refusals (means start)) c.processor.lines c.observed.report.place w.from)
+  ending_here : (h : History) (c : Machine S) (w : OnTheWay h c) → ends (current_row c.processor.state).sequencing ≡ ends_path (ticks (refusals (means start)) c.processor.lines c.observed.report.place w.from)
   ending_here h c w = ap ends_path (w.ticked c.processor.lines)
 
   -- an unfrozen cycle within a step
-  way_on : (h : History) (c d : Machine S) → Cycle steps c false d → ends (hand c.processor.state).sequencing ≡ false → OnTheWay h c → OnTheWay (record { lines = h.lines; since = h.since + 1 }) d
+  way_on : (h : History) (c d : Machine S) → Cycle steps c false d → ends (current_row c.processor.state).sequencing ≡ false → OnTheWay h c → OnTheWay (record { lines = h.lines; since = h.since + 1 }) d
   way_on h c d k e w =
       let n : ℕ = c.observed.report.place in
-      let count : d.observed.report ≡ record { cycles = c.observed.report.cycles + 1; frozen = c.observed.report.frozen; boundaries = c.observed.report.boundaries; place = n + 1 } = report_of k ∙ ap (λ b. counted false b c.observed.report) e in
+      let count : d.observed.report ≡ record { cycles = c.observed.report.cycles + 1; frozen = c.observed.report.frozen; boundaries = c.observed.report.boundaries; place = n + 1 } = report_of k ∙ ap (λ b. report_after false b c.observed.report) e in
       record {
         refuses = still_refuses h c d false k w;
         fit = w.fit;
@@ -121,7 +121,7 @@ module _ {S : Type 0} {means : S → Meaning} {steps : S → Request → Answer 
             ∙ ap (λ p. ticks (refusals (means start)) l p w.from) (sym (add-one n) ∙ ap (λ m. m.place) (sym count));
         short = subst (λ m. m.place < length_of (book h) (book h).event) (sym count) (further (cases_eq (n + 1) (length_of (book h) (book h).event)));
         boundaries = w.boundaries ∙ ap (λ m. m.boundaries) (sym count);
-        sum = subst (λ m. m.cycles ≡ m.frozen + lengths (means start) h.lines + m.place) (sym count) (omega (arith, w.sum));
+        sum = subst (λ m. m.cycles ≡ m.frozen + total_length (means start) h.lines + m.place) (sym count) (omega (arith, w.sum));
       }
     where
       further : (c.observed.report.place + 1 ≡ length_of (book h) (book h).event) ⊎ (c.observed.report.place + 1 ≡ length_of (book h) (book h).event → ⊥) → c.observed.report.place + 1 < length_of (book h) (book h).event
@@ -129,11 +129,11 @@ module _ {S : Type 0} {means : S → Meaning} {steps : S → Request → Answer 
       further (inr more) = omega (arith, w.short)
 
   -- an unfrozen cycle that ends it: a boundary
-  way_over : (h : History) (c d : Machine S) → Cycle steps c false d → ends (hand c.processor.state).sequencing ≡ true → OnTheWay h c → OnTheWay (record { lines = c.processor.lines ∷ h.lines; since = 0 }) d
+  way_over : (h : History) (c d : Machine S) → Cycle steps c false d → ends (current_row c.processor.state).sequencing ≡ true → OnTheWay h c → OnTheWay (record { lines = c.processor.lines ∷ h.lines; since = 0 }) d
   unfolding ticks
   way_over h c d k e w =
       let n : ℕ = c.observed.report.place in
-      let count : d.observed.report ≡ record { cycles = c.observed.report.cycles + 1; frozen = c.observed.report.frozen; boundaries = c.observed.report.boundaries + 1; place = 0 } = report_of k ∙ ap (λ b. counted false b c.observed.report) e in
+      let count : d.observed.report ≡ record { cycles = c.observed.report.cycles + 1; frozen = c.observed.report.frozen; boundaries = c.observed.report.boundaries + 1; place = 0 } = report_of k ∙ ap (λ b. report_after false b c.observed.report) e in
       let whole : n + 1 ≡ length_of (book h) (book h).event = last (cases_eq (n + 1) (length_of (book h) (book h).event)) in
       let arrived : world below.memory keeps d ≡ ticks (refusals (means start)) c.processor.lines (length_of (book h) (book h).event) w.from =
       next_tick h c d k w
@@ -149,7 +149,7 @@ module _ {S : Type 0} {means : S → Meaning} {steps : S → Request → Answer 
         ticked = λ l. ap (λ p. ticks (refusals (means start)) l p (world below.memory keeps d)) (ap (λ m. m.place) (sym count));
         short = subst (λ m. m.place < length_of (step (refusals (means start)) c.processor.lines (book h)) (step (refusals (means start)) c.processor.lines (book h)).event) (sym count) (below.some (step (refusals (means start)) c.processor.lines (book h)) (step (refusals (means start)) c.processor.lines (book h)).event);
         boundaries = ap suc w.boundaries ∙ sym (add-one _) ∙ ap (λ m. m.boundaries) (sym count);
-        sum = subst (λ m. m.cycles ≡ m.frozen + lengths (means start) (c.processor.lines ∷ h.lines) + m.place) (sym count) (omega (arith, w.sum));
+        sum = subst (λ m. m.cycles ≡ m.frozen + total_length (means start) (c.processor.lines ∷ h.lines) + m.place) (sym count) (omega (arith, w.sum));
       }
     where
       last : (c.observed.report.place + 1 ≡ length_of (book h) (book h).event) ⊎ (c.observed.report.place + 1 ≡ length_of (book h) (book h).event → ⊥) → c.observed.report.place + 1 ≡ length_of (book h) (book h).event
@@ -158,9 +158,9 @@ module _ {S : Type 0} {means : S → Meaning} {steps : S → Request → Answer 
 
   pub way_cycle : (c d : Machine S) (f : Bool) → Cycle steps c f d → OnTheWay c.observed.history c → OnTheWay d.observed.history d
   way_cycle c d true k w = subst (λ h. OnTheWay h d) (sym (history_of k)) (way_frozen c.observed.history c d k w)
-  way_cycle c d false k w = subst (λ h. OnTheWay h d) (sym (history_of k)) (by (ends (hand c.processor.state).sequencing) refl)
+  way_cycle c d false k w = subst (λ h. OnTheWay h d) (sym (history_of k)) (by (ends (current_row c.processor.state).sequencing) refl)
     where
-      by : (e : Bool) → ends (hand c.processor.state).sequencing ≡ e → OnTheWay (cond {A = History} e (record { lines = c.processor.lines ∷ c.observed.history.lines; since = 0 }) (record { lines = c.observed.history.lines; since = c.observed.history.since + 1 })) d
+      by : (e : Bool) → ends (current_row c.processor.state).sequencing ≡ e → OnTheWay (cond {A = History} e (record { lines = c.processor.lines ∷ c.observed.history.lines; since = 0 }) (record { lines = c.observed.history.lines; since = c.observed.history.since + 1 })) d
       by true e = way_over c.observed.history c d k e w
       by false e = way_on c.observed.history c d k e w
 

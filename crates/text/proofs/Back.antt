@@ -9,16 +9,16 @@ use Rattle.std.proofs.lemmas.List.Splits.{slice_split_at, slice_split_none}
 use Rattle.std.specs.List.{All}
 use Rattle.text.proofs.Parted.{digits-length}
 use Rattle.text.specs.Digit.{byte_of}
-use Rattle.text.specs.Line.{digit, fields_of, value_of}
-use Rattle.text.specs.Reread.{RoundTrip, reread_fields}
-use Rattle.text.specs.Written.{Field, digits, parted}
+use Rattle.text.specs.Line.{digit_value, fields_of, value_of}
+use Rattle.text.specs.Reread.{RoundTrip, reply_of_fields}
+use Rattle.text.specs.Written.{Field, digits, separated_fields}
 use Rattle.text.specs.declared.reply.Reply.TheVariants.{Loaded, Started, Set, Ran, Shown, Denied}
 
 -- a digit's byte is no space, and has the digit's value
 no_space : (d : ℕ) → eqb (byte_of d) 32 ≡ false
 no_space d = grind (arith, nat_tests)
 
-digit_back : (d : ℕ) → d < 16 → digit (byte_of d) ≡ d
+digit_back : (d : ℕ) → d < 16 → digit_value (byte_of d) ≡ d
 digit_back d h = grind (arith, nat_tests)
 
 value_back : (n v : ℕ) → value_of (digits n v) ≡ v % 16 ^ n
@@ -44,21 +44,21 @@ whole : (n v : ℕ) → v < 16 ^ n → value_of (digits n v) ≡ v
 whole n v h = value_back n v ∙ mod-eq_of_lt h
 
 -- the fields of what was written
-all_fields : (f : Field) (fs : List Field) → fields_of (parted (f ∷ fs)) ≡ map (λ g. digits g.0 g.1) (f ∷ fs)
+all_fields : (f : Field) (fs : List Field) → fields_of (separated_fields (f ∷ fs)) ≡ map (λ g. digits g.0 g.1) (f ∷ fs)
 all_fields f [] = alone f.0 f.1
-all_fields f (g ∷ gs) = apart f.0 f.1 (parted (g ∷ gs)) ∙ ap (λ p. digits f.0 f.1 ∷ p) (all_fields g gs)
+all_fields f (g ∷ gs) = apart f.0 f.1 (separated_fields (g ∷ gs)) ∙ ap (λ p. digits f.0 f.1 ∷ p) (all_fields g gs)
 
 pub round_trip : RoundTrip
 round_trip Loaded h = refl
 round_trip Started h = refl
 round_trip Set h = refl
 round_trip (Ran n) h =
-    ap reread_fields (all_fields (2, 0x40) ((16, n.cycles) ∷ (16, n.frozen) ∷ (16, n.boundaries) ∷ []))
+    ap reply_of_fields (all_fields (2, 0x40) ((16, n.cycles) ∷ (16, n.frozen) ∷ (16, n.boundaries) ∷ []))
     ∙ ap₂ (λ a b. Some (Ran (record { cycles = a; frozen = b; boundaries = value_of (digits 16 n.boundaries) }))) (whole 16 n.cycles h.1.0) (whole 16 n.frozen h.1.1.0)
     ∙ ap (λ b. Some (Ran (record { cycles = n.cycles; frozen = n.frozen; boundaries = b }))) (whole 16 n.boundaries h.1.1.1.0)
 round_trip (Shown r w) h =
-    ap reread_fields (all_fields (2, 0x50) ((2, r) ∷ (8, w) ∷ [])) ∙ ap₂ (λ a b. Some (Shown a b)) (whole 2 r h.1.0) (whole 8 w h.1.1.0)
+    ap reply_of_fields (all_fields (2, 0x50) ((2, r) ∷ (8, w) ∷ [])) ∙ ap₂ (λ a b. Some (Shown a b)) (whole 2 r h.1.0) (whole 8 w h.1.1.0)
 round_trip (Denied d) h =
-    ap reread_fields (all_fields (2, 0xFF) ((2, d.number) ∷ (8, d.line) ∷ (8, d.address) ∷ []))
+    ap reply_of_fields (all_fields (2, 0xFF) ((2, d.number) ∷ (8, d.line) ∷ (8, d.address) ∷ []))
     ∙ ap₂ (λ a b. Some (Denied (record { number = a; line = b; address = value_of (digits 8 d.address) }))) (whole 2 d.number h.1.0) (whole 8 d.line h.1.1.0)
     ∙ ap (λ c. Some (Denied (record { number = d.number; line = d.line; address = c }))) (whole 8 d.address h.1.1.1.0)

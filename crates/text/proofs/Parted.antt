@@ -5,7 +5,7 @@ use Rattle.std.proofs.lemmas.Grind.{pow_more}
 use Rattle.std.proofs.lemmas.List.{append-nil}
 use Rattle.text.specs.Digit.{byte_of}
 use Rattle.text.specs.Form.{space}
-use Rattle.text.specs.Written.{Field, digits, parted}
+use Rattle.text.specs.Written.{Field, digits, separated_fields}
 
 sixteen : (n : ℕ) → 2 ^ (4 * n) ≡ 16 ^ n
 sixteen zero = refl
@@ -26,7 +26,7 @@ abbrev pub behind : List Field → List ℕ
 behind [] = []
 behind (f ∷ fs) = space ∷ (digits f.0 f.1 ++ behind fs)
 
-pub parted-behind : (f : Field) (fs : List Field) → digits f.0 f.1 ++ behind fs ≡ parted (f ∷ fs)
+pub parted-behind : (f : Field) (fs : List Field) → digits f.0 f.1 ++ behind fs ≡ separated_fields (f ∷ fs)
 parted-behind f [] = append-nil (digits f.0 f.1)
 parted-behind f (g ∷ gs) = ap (λ xs. digits f.0 f.1 ++ space ∷ xs) (parted-behind g gs)
 

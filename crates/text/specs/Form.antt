@@ -12,8 +12,8 @@ code_of Run = 0x40
 code_of Show = 0x50
 
 -- the code with which a denial begins
-abbrev pub denied : ℕ
-denied = 0xFF
+abbrev pub denial_code : ℕ
+denial_code = 0xFF
 
 -- how many digits a code has
 abbrev pub code_width : ℕ
@@ -40,8 +40,8 @@ abbrev pub space : ℕ
 space = 0x20
 
 -- the byte that ends a line, and a reply
-abbrev pub end : ℕ
-end = 0x0A
+abbrev pub line_end : ℕ
+line_end = 0x0A
 
 -- how many bytes the longest reply has, which tells three counts
 abbrev pub longest_reply : ℕ

@@ -15,22 +15,22 @@ use Rattle.text.specs.declared.order.Order.TheVariants as order
 abbrev pub fields_of : List ℕ → List (List ℕ)
 fields_of line = slice_split (λ b. b == space) line
 
--- whether a byte is a digit
+-- whether a byte is a digit_value
 abbrev pub is_digit : ℕ → Bool
 is_digit b = is_some (digit_of b)
 
 -- a field in form: digits, at least one
-abbrev pub in_form : List ℕ → Bool
-in_form f = nat_lt 0 (length f) && list_all is_digit f
+abbrev pub is_in_form : List ℕ → Bool
+is_in_form f = nat_lt 0 (length f) && list_all is_digit f
 
--- the value of a digit
-abbrev pub digit : ℕ → ℕ
-digit b = unwrap_or (digit_of b) 0
+-- the value of a digit_value
+abbrev pub digit_value : ℕ → ℕ
+digit_value b = unwrap_or (digit_of b) 0
 
 -- the value of a field: its digits, the first one highest
 abbrev pub value_of : List ℕ → ℕ
 value_of [] = 0
-value_of (b ∷ bs) = digit b * 16 ^ length bs + value_of bs
+value_of (b ∷ bs) = digit_value b * 16 ^ length bs + value_of bs
 
 -- the kinds, by their codes
 abbrev pub kind_at : ℕ → Option Kind
@@ -52,30 +52,30 @@ widths kind.Run = run_width ∷ []
 widths kind.Show = byte_width ∷ []
 
 -- fields right in count and width
-abbrev pub fits : List ℕ → List (List ℕ) → Bool
-fits [] [] = true
-fits [] (f ∷ fs) = false
-fits (w ∷ ws) [] = false
-fits (w ∷ ws) (f ∷ fs) = length f == w && fits ws fs
+abbrev pub fields_fit : List ℕ → List (List ℕ) → Bool
+fields_fit [] [] = true
+fields_fit [] (f ∷ fs) = false
+fields_fit (w ∷ ws) [] = false
+fields_fit (w ∷ ws) (f ∷ fs) = length f == w && fields_fit ws fs
 
 -- the line that a kind and the values of its other fields make
-abbrev pub built : Kind → List ℕ → Order
-built kind.Load vs = order.Load (slice_index vs 0) (slice_index vs 1)
-built kind.Start vs = order.Start
-built kind.Lines vs = order.Lines (slice_index vs 0)
-built kind.Run vs = order.Run (slice_index vs 0)
-built kind.Show vs = order.Show (slice_index vs 0)
+abbrev pub order_of : Kind → List ℕ → Order
+order_of kind.Load vs = order.Load (slice_index vs 0) (slice_index vs 1)
+order_of kind.Start vs = order.Start
+order_of kind.Lines vs = order.Lines (slice_index vs 0)
+order_of kind.Run vs = order.Run (slice_index vs 0)
+order_of kind.Show vs = order.Show (slice_index vs 0)
 
 -- fields in form: the kind is looked at first, then count and width
-abbrev pub ordered : Option Kind → List (List ℕ) → Result Order LineFault
-ordered None fs = Err fault.Unknown
-ordered (Some k) fs = cond (fits (widths k) fs) (Ok (built k (map value_of fs))) (Err fault.Form)
+abbrev pub read_order : Option Kind → List (List ℕ) → Result Order LineFault
+read_order None fs = Err fault.Unknown
+read_order (Some k) fs = cond (fields_fit (widths k) fs) (Ok (order_of k (map value_of fs))) (Err fault.Form)
 
 -- the first field names the kind; every line has one
-abbrev pub meant : List (List ℕ) → Result Order LineFault
-meant [] = Err fault.Form
-meant (f ∷ fs) = ordered (kind_of f) fs
+abbrev pub read_fields : List (List ℕ) → Result Order LineFault
+read_fields [] = Err fault.Form
+read_fields (f ∷ fs) = read_order (kind_of f) fs
 
 -- what a line means, or its first denial
 abbrev pub read_line : List ℕ → Result Order LineFault
-read_line line = cond (list_all in_form (fields_of line)) (meant (fields_of line)) (Err fault.Form)
+read_line line = cond (list_all is_in_form (fields_of line)) (read_fields (fields_of line)) (Err fault.Form)

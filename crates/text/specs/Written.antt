@@ -1,7 +1,7 @@
 -- The bytes of a reply. Assumes nothing.
 use Rattle.std.specs.Prelude.{ℕ, zero, suc, ◌/◌, ◌%◌, ◌^◌, List, [], ◌∷◌, ◌++◌}
 use Rattle.text.specs.Digit.{byte_of}
-use Rattle.text.specs.Form.{byte_width, code_of, code_width, count_width, denied, end, space, word_width}
+use Rattle.text.specs.Form.{byte_width, code_of, code_width, count_width, denial_code, line_end, space, word_width}
 use Rattle.text.specs.declared.reply.Counts.{Counts}
 use Rattle.text.specs.declared.order.Kind.TheVariants as kind
 use Rattle.text.specs.declared.reply.Denied as denial
@@ -26,24 +26,24 @@ abbrev pub fields_of_denial : denial.Denied → List Field
 fields_of_denial d = (byte_width, d.number) ∷ (word_width, d.line) ∷ (word_width, d.address) ∷ []
 
 -- a field that tells a code
-abbrev pub coded : ℕ → Field
-coded code = (code_width, code)
+abbrev pub code_field : ℕ → Field
+code_field code = (code_width, code)
 
 -- the fields of a reply: its code, and what it tells
-abbrev pub fields_in : Reply → List Field
-fields_in Loaded = coded (code_of kind.Load) ∷ []
-fields_in Started = coded (code_of kind.Start) ∷ []
-fields_in Set = coded (code_of kind.Lines) ∷ []
-fields_in (Ran n) = coded (code_of kind.Run) ∷ fields_of_counts n
-fields_in (Shown r w) = coded (code_of kind.Show) ∷ (byte_width, r) ∷ (word_width, w) ∷ []
-fields_in (Denied d) = coded denied ∷ fields_of_denial d
+abbrev pub reply_fields : Reply → List Field
+reply_fields Loaded = code_field (code_of kind.Load) ∷ []
+reply_fields Started = code_field (code_of kind.Start) ∷ []
+reply_fields Set = code_field (code_of kind.Lines) ∷ []
+reply_fields (Ran n) = code_field (code_of kind.Run) ∷ fields_of_counts n
+reply_fields (Shown r w) = code_field (code_of kind.Show) ∷ (byte_width, r) ∷ (word_width, w) ∷ []
+reply_fields (Denied d) = code_field denial_code ∷ fields_of_denial d
 
--- fields parted by single spaces
-abbrev pub parted : List Field → List ℕ
-parted [] = []
-parted (f ∷ []) = digits f.0 f.1
-parted (f ∷ (g ∷ fs)) = digits f.0 f.1 ++ space ∷ parted (g ∷ fs)
+-- fields separated_fields by single spaces
+abbrev pub separated_fields : List Field → List ℕ
+separated_fields [] = []
+separated_fields (f ∷ []) = digits f.0 f.1
+separated_fields (f ∷ (g ∷ fs)) = digits f.0 f.1 ++ space ∷ separated_fields (g ∷ fs)
 
 -- the bytes of a reply, of which the last ends it
-abbrev pub written : Reply → List ℕ
-written r = parted (fields_in r) ++ end ∷ []
+abbrev pub reply_text : Reply → List ℕ
+reply_text r = separated_fields (reply_fields r) ++ line_end ∷ []

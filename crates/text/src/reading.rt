@@ -3,7 +3,7 @@
 ghost use Rattle.std.specs.Prelude.{◌≡◌, ◌==◌, ◌^◌, ◌<◌, ◌≤◌, ◌∷◌, cond, length, map, take, Some, None, IfSome};
 ghost use Rattle.std.specs.List.{list_all};
 ghost use Rattle.std.specs.Option.{ok_or, some_prefix};
-ghost use Rattle.text.specs.Line.{fields_of, in_form, kind_of, ordered, read_line, value_of};
+ghost use Rattle.text.specs.Line.{fields_of, is_in_form, kind_of, read_order, read_line, value_of};
 ghost use Rattle.text.specs.declared.fault.LineFault.TheVariants.{Form, Unknown};
 
 use super::digit;
@@ -13,7 +13,7 @@ use super::order::{Kind, Order};
 
 /// Whether a field is digits, at least one.
 fn is_in_form(field: &[u8]) -> bool
-    ensures { result ≡ in_form field.now }
+    ensures { result ≡ is_in_form field.now }
 {
     !field.is_empty() && field.iter().all(|byte| digit::value(*byte).is_some())
 }
@@ -43,7 +43,7 @@ fn kind(field: &[u8]) -> Result<Kind, LineFault>
 
 /// The order of a kind, where the fields behind it are right in count and width. No kind has three.
 fn order(kind: Kind, others: [Option<&[u8]>; 3]) -> Option<Order>
-    ensures { ok_or result Form ≡ ordered (Some kind) (map (λ field. field.now) (some_prefix others.entry)) }
+    ensures { ok_or result Form ≡ read_order (Some kind) (map (λ field. field.now) (some_prefix others.entry)) }
 {
     match (kind, others) {
         (Kind::Load, [Some(address), Some(word), None]) => {
@@ -72,7 +72,7 @@ fn first_fields(line: &[u8]) -> (&[u8], [Option<&[u8]>; 3])
 
 /// Whether each field of a line is in form.
 fn is_formed(line: &[u8]) -> bool
-    ensures { result ≡ list_all in_form (fields_of line.now) }
+    ensures { result ≡ list_all is_in_form (fields_of line.now) }
 {
     line.split(|byte| *byte == SPACE).all(is_in_form)
 }

@@ -3,9 +3,9 @@
 ghost use Rattle.std.specs.Prelude.{◌≡◌, ◌≤◌, ◌<◌, ◌+◌, ◌++◌, ◌∷◌, [], length};
 ghost use Rattle.std.specs.List.{All};
 ghost use Rattle.arrayvec.specs.ArrayVec.{array_vec_len};
-ghost use Rattle.text.specs.Form.{end, longest_reply};
+ghost use Rattle.text.specs.Form.{line_end, longest_reply};
 ghost use Rattle.text.specs.Reread.{RoundTrip};
-ghost use Rattle.text.specs.Written.{coded, digits, fields_of_counts, fields_of_denial, parted, written};
+ghost use Rattle.text.specs.Written.{code_field, digits, fields_of_counts, fields_of_denial, separated_fields, reply_text};
 
 use super::digit;
 use super::form::{BYTE_WIDTH, CODE_WIDTH, COUNT_WIDTH, DENIED, END, SPACE, WORD_WIDTH};
@@ -36,9 +36,9 @@ fn push_field(text: &mut Text, field: Field)
 
 /// A code and the fields behind it, parted by spaces, and the end of a reply.
 fn line_of(code: u64, others: &[Field]) -> Text
-    requires room { length (parted (coded code ∷ others.now)) < LONGEST_REPLY }
+    requires room { length (separated_fields (code_field code ∷ others.now)) < LONGEST_REPLY }
     requires widths { All (λ f. f.0 ≤ COUNT_WIDTH) others.now }
-    ensures { result.items ≡ parted (coded code ∷ others.now) ++ end ∷ [] }
+    ensures { result.items ≡ separated_fields (code_field code ∷ others.now) ++ line_end ∷ [] }
 {
     let mut text = Text::new();
     push_field(&mut text, (CODE_WIDTH, code));
@@ -75,7 +75,7 @@ fn of_denial(denied: Denied) -> [Field; 3]
 /// The bytes of a reply, the one that ends it among them; reading them gives the reply back.
 #[tactic(auto, using(crate::proofs::Back::round_trip))]
 pub fn text(reply: Reply) -> Text
-    ensures bytes { result.items ≡ written reply }
+    ensures bytes { result.items ≡ reply_text reply }
     ensures fits { length result.items ≤ longest_reply }
     ensures limit { LONGEST_REPLY ≡ longest_reply }
     ensures back { RoundTrip }

@@ -3,10 +3,10 @@ use Rattle.std.specs.Prelude.{◌≡◌, ℕ, ◌+◌, ◌-◌, ◌<◌, ◌≤�
 use Rattle.std.proofs.Common.{inl, sym, ap, subst, arith}
 use Rattle.std.proofs.Math.Path.{subst₃}
 use Rattle.std.proofs.lemmas.Bool.{and_from, eq-eqb, lt-ltb, ltb-false, ltb-true}
-use Rattle.layers.specs.Delay.{DelaySteps, delay, delay_means, ended, left, lowered}
+use Rattle.layers.specs.Delay.{DelaySteps, delay, delay_means, state_after, count_left, own_waits}
 use Rattle.layers.proofs.Keeps.Layer.{layer, request}
-use Rattle.bus.specs.Meaning.{Answers, Keeps, Meaning, Sound}
-use Rattle.bus.specs.Request.{access_of, same, kind_number}
+use Rattle.bus.specs.Meaning.{Answers, Keeps, Meaning, IsSound}
+use Rattle.bus.specs.Request.{access_of, same_access, kind_number}
 use Rattle.layers.specs.declared.delay.Delay.{Delay}
 use Rattle.layers.specs.declared.delay.State.{State}
 use Rattle.layers.specs.declared.delay.State.TheVariants.{Idle, Counting}
@@ -20,29 +20,29 @@ pick : (b : Bool) (m n top : ℕ) → m ≤ top → n ≤ top → cond b m n ≤
 pick true m n top h k = h
 pick false m n top h k = k
 
-left_bound : (n : ℕ) (state : State) (x : Access) → left n state x ≤ n
+left_bound : (n : ℕ) (state : State) (x : Access) → count_left n state x ≤ n
 left_bound n Idle x = omega arith
-left_bound n (Counting access count) x = pick (same access x) (min count n) n n (omega arith) (omega arith)
+left_bound n (Counting access count) x = pick (same_access access x) (min count n) n n (omega arith) (omega arith)
 
-delay_sound : (n : ℕ) (state : State) (m : Meaning) → Sound m → Sound (delay n state m)
+delay_sound : (n : ℕ) (state : State) (m : Meaning) → IsSound m → IsSound (delay n state m)
 delay_sound n state m h =
     record {
       bytes = h.bytes;
-      waits = λ x. omega (arith, left_bound (lowered n m.longest) state x, h.waits x);
+      waits = λ x. omega (arith, left_bound (own_waits n m.longest) state x, h.waits x);
       longest = omega (arith, h.longest);
     }
 
-same_self : (x : Access) → same x x ≡ true
+same_self : (x : Access) → same_access x x ≡ true
 same_self x = and_from _ _ (eq-eqb x.address x.address refl) (eq-eqb (kind_number x.kind) (kind_number x.kind) refl)
 
 -- the count of the request that is counted for
-left_self : (n c : ℕ) (x : Access) → c ≤ n → left n (Counting x c) x ≡ c
+left_self : (n c : ℕ) (x : Access) → c ≤ n → count_left n (Counting x c) x ≡ c
 left_self n c x h = rw (same_self x) (omega arith)
 
 -- while the count is above 0
-waits : (n : ℕ) (state : State) (m : Meaning) (q : Request) → 0 < left (lowered n m.longest) state (access_of q)
+waits : (n : ℕ) (state : State) (m : Meaning) (q : Request) → 0 < count_left (own_waits n m.longest) state (access_of q)
     → Answers (delay n state m) q Wait
-    (delay n (Counting (access_of q) (left (lowered n m.longest) state (access_of q) - 1)) m)
+    (delay n (Counting (access_of q) (count_left (own_waits n m.longest) state (access_of q) - 1)) m)
 waits n state m q h =
     record {
       answered = rw stalls;
@@ -54,10 +54,10 @@ waits n state m q h =
     }
   where
     k : ℕ
-    k = lowered n m.longest
+    k = own_waits n m.longest
 
     c : ℕ
-    c = left k state (access_of q)
+    c = count_left k state (access_of q)
 
     falls : c - 1 ≤ k
     falls = omega (arith, left_bound k state (access_of q))
@@ -67,19 +67,19 @@ waits n state m q h =
 
 -- at 0
 asks : (n : ℕ) (state : State) (m m' : Meaning) (address : ℕ) (y : Action) (a : Answer)
-    → left (lowered n m.longest) state (access_of (request address y)) ≡ 0
+    → count_left (own_waits n m.longest) state (access_of (request address y)) ≡ 0
     → Answers m (request address y) a m'
-    → Answers (delay n state m) (request address y) a (delay n (ended (access_of (request address y)) a) m')
+    → Answers (delay n state m) (request address y) a (delay n (state_after (access_of (request address y)) a) m')
 asks n state m m' address y a z h =
     layer (
     record {
       through =
           record { waits = rw z (omega arith); unreadable = refl; unwritable = refl; low = refl; bytes = λ i s. refl };
       seen = λ x. inl (x, record { before = refl; after = refl; there = λ k. omega arith; back = λ k. k });
-      waits = λ e. rw (e, left_self (lowered n m'.longest) 0 _ (omega arith)) (omega arith);
+      waits = λ e. rw (e, left_self (own_waits n m'.longest) 0 _ (omega arith)) (omega arith);
       unreadable = h.unreadable;
       unwritable = h.unwritable;
-      longest = ap (λ l. l + lowered n l) h.longest;
+      longest = ap (λ l. l + own_waits n l) h.longest;
     }) h
 
 module _ {A : Type 0} {means : A → Meaning} {steps : A → Request → Answer → A → Type 0}
@@ -93,12 +93,12 @@ module _ {A : Type 0} {means : A → Meaning} {steps : A → Request → Answer 
       m = delay_means means s
 
       c : ℕ
-      c = left (lowered s.n (means s.below).longest) s.state (access_of q)
+      c = count_left (own_waits s.n (means s.below).longest) s.state (access_of q)
 
       go : (b : Bool) → nat_lt 0 c ≡ b
           → MatchBool b
           ((a ≡ Wait) × (t.state ≡ Counting (access_of q) (c - 1)) × (t.below ≡ s.below))
-          (steps s.below q a t.below × (t.state ≡ ended (access_of q) a))
+          (steps s.below q a t.below × (t.state ≡ state_after (access_of q) a))
           → Answers m q a (delay s.n t.state (means t.below))
       go true e k =
           subst₃ (λ x y u. Answers m q x (delay s.n y (means u))) (sym k.0) (sym k.1) (sym k.2)

@@ -3,7 +3,7 @@ use Rattle.std.specs.Prelude.{◌≡◌, ℕ, ◌+◌, ◌<◌, ◌≤◌, max, 
 use Rattle.std.proofs.Common.{inl, inr, sym, ap, subst, arith}
 use Rattle.std.proofs.lemmas.Bool.{both_ways, cases_Bool, le-ltb, lt-ltb, ltb-false, ltb-true}
 use Rattle.layers.proofs.Keeps.Layer.{Seen, layer, request}
-use Rattle.bus.specs.Meaning.{Answers, Keeps, Meaning, Sound}
+use Rattle.bus.specs.Meaning.{Answers, Keeps, Meaning, IsSound}
 use Rattle.bus.specs.Request.{word_of}
 use Rattle.layers.specs.Split.{SplitSteps, split, split_means}
 use Rattle.bus.specs.declared.request.Action.{Action}
@@ -16,7 +16,7 @@ pick : (P : ℕ → Type 0) (b : Bool) (m n : ℕ) → P m → P n → P (cond b
 pick P true m n h k = h
 pick P false m n h k = k
 
-split_sound : (mark : ℕ) (one two : Meaning) → Sound one → Sound two → Sound (split mark one two)
+split_sound : (mark : ℕ) (one two : Meaning) → IsSound one → IsSound two → IsSound (split mark one two)
 split_sound mark one two h k =
     record {
       bytes = λ x. pick (λ n. n < 256) (nat_lt x (word_of mark)) (one.byte x) (two.byte x) (h.bytes x) (k.bytes x);

@@ -2,9 +2,9 @@
 use Rattle.std.specs.Prelude.{◌≡◌, ℕ, ◌%◌, ◌<◌, Bool, true, false, cond, List, length, refl}
 use Rattle.std.proofs.Common.{ap₂, ◌∙◌, arith}
 use Rattle.std.proofs.lemmas.Bool.{false≢true}
-use Rattle.bus.specs.Meaning.{Answers, Keeps, Sound, after, answer}
+use Rattle.bus.specs.Meaning.{Answers, Keeps, IsSound, byte_after, answer}
 use Rattle.memories.specs.Ram.{RamSteps, ram_means}
-use Rattle.memories.specs.Region.{Moves, held, outside, ram}
+use Rattle.memories.specs.Region.{RegionSteps, byte_at, is_outside, ram}
 use Rattle.memories.specs.Rom.{RomSteps, rom, rom_means}
 use Rattle.memories.specs.Scratch.{ScratchSteps, scratch_means}
 use Rattle.bus.specs.declared.request.Action.{Action}
@@ -16,22 +16,22 @@ byte : (b : Bool) (n : ℕ) → cond b (n % 256) 0 < 256
 byte true n = omega arith
 byte false n = omega arith
 
-ram_sound : (base : ℕ) (bytes : List ℕ) → Sound (ram base bytes)
+ram_sound : (base : ℕ) (bytes : List ℕ) → IsSound (ram base bytes)
 ram_sound base bytes = record { bytes = λ address. byte _ _; waits = λ x. omega arith; longest = omega arith }
 
-ram_tells : {base base' : ℕ} {bytes bytes' : List ℕ} {q : Request} {a : Answer} → Moves base bytes q a base' bytes'
+ram_tells : {base base' : ℕ} {bytes bytes' : List ℕ} {q : Request} {a : Answer} → RegionSteps base bytes q a base' bytes'
     → Answers (ram base bytes) q a (ram base' bytes')
 ram_tells h =
     record {
       answered = h.answered;
       bytes = h.holds;
       counted = λ e. absurd (false≢true e);
-      unreadable = λ w. ap₂ (λ b n. outside b n w) h.based h.sized;
-      unwritable = λ w. ap₂ (λ b n. outside b n w) h.based h.sized;
+      unreadable = λ w. ap₂ (λ b n. is_outside b n w) h.based h.sized;
+      unwritable = λ w. ap₂ (λ b n. is_outside b n w) h.based h.sized;
       longest = refl;
     }
 
-rom_sound : (base : ℕ) (bytes : List ℕ) → Sound (rom base bytes)
+rom_sound : (base : ℕ) (bytes : List ℕ) → IsSound (rom base bytes)
 rom_sound base bytes = record { bytes = λ address. byte _ _; waits = λ x. omega arith; longest = omega arith }
 
 same : (b : Bool) (n : ℕ) → n ≡ cond b n n
@@ -39,7 +39,7 @@ same true n = refl
 same false n = refl
 
 unchanged : (base : ℕ) (bytes : List ℕ) (address : ℕ) (x : Action) (at : ℕ)
-    → held base bytes at ≡ after (rom base bytes) (record { address = address; action = x }) at
+    → byte_at base bytes at ≡ byte_after (rom base bytes) (record { address = address; action = x }) at
 unchanged base bytes address action.Read at = same _ _
 unchanged base bytes address (action.Write w d) at = refl
 
@@ -49,9 +49,9 @@ rom_tells : {base base' : ℕ} {bytes bytes' : List ℕ} {q : Request} {a : Answ
 rom_tells {base} {base'} {bytes} {bytes'} {q} {a} h =
     record {
       answered = h.2;
-      bytes = λ at. ap₂ (λ b l. held b l at) h.0 h.1 ∙ unchanged base bytes q.address q.action at;
+      bytes = λ at. ap₂ (λ b l. byte_at b l at) h.0 h.1 ∙ unchanged base bytes q.address q.action at;
       counted = λ e. absurd (false≢true e);
-      unreadable = λ w. ap₂ (λ b l. outside b (length l) w) h.0 h.1;
+      unreadable = λ w. ap₂ (λ b l. is_outside b (length l) w) h.0 h.1;
       unwritable = λ w. refl;
       longest = refl;
     }

@@ -3,11 +3,11 @@ use Rattle.std.proofs.lemmas.Bool.{lt-ltb, false≢true}
 use Rattle.std.proofs.lemmas.Iterator.{YieldsList-from_slice}
 use Rattle.std.proofs.lemmas.Iterator.Search.{all_from_yields_List}
 use Rattle.std.specs.List.{list_all}
-use Rattle.text.specs.Line.{in_form, is_digit}
+use Rattle.text.specs.Line.{is_in_form, is_digit}
 use Rattle.text.proofs.reading.is_in_form.Goals as goal
 
 -- a field that is not empty
-filled : (f : List ℕ) → false ≡ (length f == 0) → list_all is_digit f ≡ in_form f
+filled : (f : List ℕ) → false ≡ (length f == 0) → list_all is_digit f ≡ is_in_form f
 filled [] e = absurd (false≢true e)
 filled (b ∷ bs) e = sym (ap (λ t. t && list_all is_digit (b ∷ bs)) (lt-ltb 0 (suc (length bs)) (omega arith)))
 

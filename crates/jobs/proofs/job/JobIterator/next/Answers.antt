@@ -1,5 +1,5 @@
 use Rattle.std.proofs.Common.{◌≡◌, None, refl, sym, ◌∙◌, ap}
-use Rattle.jobs.specs.Coming.{left_of}
+use Rattle.jobs.specs.Coming.{lines_left}
 use Rattle.jobs.proofs.Coming.{gives_due, gives_line, gives_none, none_left}
 use Rattle.jobs.proofs.job.JobIterator.next.Goals as goal
 
@@ -19,7 +19,7 @@ returns-in_err-take-clause-steps g c =
     let x = c.args.self.now in
     let gone : x.pile ≡ None = sym c.take-2.ensures.value ∙ c.in_err-take.was in
     gives_none c.settles_as_decided.ensures c.cycles_as_decided.ensures c.promise.ensures x _ _ c.from_residual-in_err-take.ensures (sym c.take.ensures.value ∙ c.in_default.is) c.take.ensures.after (c.take-2.ensures.after ∙ sym gone) refl refl
-    (ap (λ o. left_of o x.lines.0.now) gone) (ap (λ o. left_of o c.next.new.self.0.now) c.take-2.ensures.after)
+    (ap (λ o. lines_left o x.lines.0.now) gone) (ap (λ o. lines_left o c.next.new.self.0.now) c.take-2.ensures.after)
 
 pub returns-clause-steps : goal.returns-clause-steps
 returns-clause-steps g c =
