@@ -10,7 +10,8 @@ use Rattle.bus.specs.declared.settle.Settled.{Settled}
 -- a memory is decided where the meaning after a request is a function of the meaning before it
 abbrev pub IsDecided : {S : Type 0} → (S → Meaning) → (S → Request → Answer → S → Type 0)
     → (Meaning → Request → Meaning) → Type 0
-IsDecided {S} means steps next = (s : S) (q : Request) (a : Answer) (t : S) → steps s q a t → means t ≡ next (means s) q
+IsDecided {S} means steps next =
+    (s : S) (q : Request) (a : Answer) (t : S) → steps s q a t → means t ≡ next (means s) q
 
 module _ (next : Meaning → Request → Meaning) where
   -- what a memory means after it was asked for a request so many times
@@ -26,4 +27,5 @@ module _ (next : Meaning → Request → Meaning) where
 abbrev pub SettlesAsDecided : {S : Type 0} → (S → Meaning) → (S → Request → Answer → S → Type 0) → Type 0
 SettlesAsDecided {S} means steps =
     (next : Meaning → Request → Meaning) → IsDecided means steps next
-    → (s : S) (q : Request) (r : Settled) (t : S) → Settles means steps s q r t → means t ≡ meaning_after_settling next q (means s)
+    → (s : S) (q : Request) (r : Settled) (t : S) → Settles means steps s q r t
+    → means t ≡ meaning_after_settling next q (means s)

@@ -1,6 +1,7 @@
 -- What a memory means, and the five points that it keeps: 1 wait, 2 bus error, 3 done, 4 the waits afterwards, 5 look.
 -- Assumes nothing.
-use Rattle.std.specs.Prelude.{◌≡◌, ℕ, ◌+◌, ◌-◌, ◌*◌, ◌/◌, ◌%◌, ◌^◌, ◌<◌, ◌≤◌, Bool, true, cond, ◌&&◌, ◌||◌, Some, None, Option, nat_le, nat_lt}
+use Rattle.std.specs.Prelude.{◌≡◌, ℕ, ◌+◌, ◌-◌, ◌*◌, ◌/◌, ◌%◌, ◌^◌, ◌<◌, ◌≤◌, Bool, true, cond, ◌&&◌, ◌||◌, Some, None}
+use Rattle.std.specs.Prelude.{Option, nat_le, nat_lt}
 use Rattle.bus.specs.Request.{access_of, byte_count, word_of, first_address}
 use Rattle.bus.specs.declared.request.Access.{Access}
 use Rattle.bus.specs.declared.request.Action.TheVariants as action
@@ -43,7 +44,10 @@ stored_byte from n d byte address =
 -- whether a request's word is is_refused to its kind
 abbrev pub is_refused : Meaning → Request → Bool
 is_refused m q =
-    elim q.action [ action.Read ↦ m.unreadable (word_of q.address) | action.Write w d ↦ m.unwritable (word_of q.address) ]
+    elim q.action [
+      | action.Read ↦ m.unreadable (word_of q.address)
+      | action.Write w d ↦ m.unwritable (word_of q.address)
+    ]
 
 -- whether a request still has waits
 abbrev pub is_stalled : Meaning → Request → Bool
@@ -56,7 +60,10 @@ done_word m q = elim q.action [ action.Read ↦ word_at m.byte (word_of q.addres
 -- the byte at an address once the request is done
 abbrev pub written_byte : Meaning → Request → ℕ → ℕ
 written_byte m q address =
-    elim q.action [ action.Read ↦ m.byte address | action.Write w d ↦ stored_byte (first_address w q.address) (byte_count w) d m.byte address ]
+    elim q.action [
+      | action.Read ↦ m.byte address
+      | action.Write w d ↦ stored_byte (first_address w q.address) (byte_count w) d m.byte address
+    ]
 
 -- the answer: wait exactly while waits are left, else bus error exactly where the word is is_refused, else done
 abbrev pub answer : Meaning → Request → Answer

@@ -25,11 +25,14 @@ end_of q (Done w) = Some (Ok w)
 
 -- a request waited out from s to t: it was asked once more than it had waits, and its end, the bytes after it and
 -- what never changes follow from the meaning before, whatever waits other requests were given
-pub record Settles {S : Type 0} (means : S → Meaning) (steps : S → Request → Answer → S → Type 0) (s : S) (q : Request) (r : Settled) (t : S) : Type 0 where
+pub record Settles {S : Type 0} (means : S → Meaning) (steps : S → Request → Answer → S → Type 0) (s : S) (q : Request)
+    (r : Settled) (t : S) : Type 0 where
   pub asked : (u : S) × (a : Answer) × Waits steps q r.waits s u × steps u q a t × (end_of q a ≡ Some r.outcome)
   pub waits : r.waits ≡ (means s).waits (access_of q)
   pub ends : r.outcome ≡ outcome (means s) q
-  pub bytes : (address : ℕ) → (means t).byte address ≡ cond (is_refused (means s) q) ((means s).byte address) (written_byte (means s) q address)
+  pub bytes : (address : ℕ)
+      → (means t).byte address
+      ≡ cond (is_refused (means s) q) ((means s).byte address) (written_byte (means s) q address)
   pub unreadable : (w : ℕ) → (means t).unreadable w ≡ (means s).unreadable w
   pub unwritable : (w : ℕ) → (means t).unwritable w ≡ (means s).unwritable w
   pub longest : (means t).longest ≡ (means s).longest

@@ -18,8 +18,8 @@ pub enum Width {
     Byte,
 }
 
-// A read is a request like a write, so `Kind` and `Action` are no options; and an access is no request with empty data,
-// since what memories compare has names of its own.
+// A read is a request like a write, so `Kind` and `Action` are no options; and an access is no request with empty
+// data, since what memories compare has names of its own.
 
 /// The four kinds of request; a read always asks for a word.
 #[derive(Clone, Copy, PartialEq, Eq)]
@@ -80,8 +80,8 @@ impl Request {
         }
     }
 
-    /// Asks to write the low bits of the data. Width, address and data are what a write is: no struct has them before there
-    /// is a request.
+    /// Asks to write the low bits of the data. Width, address and data are what a write is: no struct has them before
+    /// there is a request.
     pub fn write(width: Width, address: u32, data: u32) -> Request
         ensures { result ≡ write_of width address «data» }
     {
@@ -101,8 +101,8 @@ impl Request {
     }
 }
 
-/// The bus's own three words, and so no `Option` of a `Result`. `Done` carries the word that a read found, and 0 after a
-/// write.
+/// The bus's own three words, and so no `Option` of a `Result`. `Done` carries the word that a read found, and 0 after
+/// a write.
 #[derive(Clone, Copy, PartialEq, Eq)]
 pub enum Answer {
     Wait,

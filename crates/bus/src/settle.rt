@@ -47,8 +47,8 @@ pub fn settle<B: Bus>(bus: &mut B, request: Request) -> Settled
     unreachable()
 }
 
-/// Where a memory's meaning decides how it goes on, it decides what waiting out leaves. A proof and no code: who calls it has
-/// its contract.
+/// Where a memory's meaning decides how it goes on, it decides what waiting out leaves. A proof and no code: who calls
+/// it has its contract.
 pub fn settles_as_decided<B: Bus>()
     ensures { SettlesAsDecided B.Bus.means B.Bus.steps }
 {}

@@ -40,15 +40,15 @@ module _ {S : Type 0} {means : S → Meaning} {steps : S → Request → Answer 
     (next : Meaning → Request → Meaning) (decided : IsDecided means steps next) where
   early_does : (s : S) (x : EarlyEffect) (r : Result Reply JobFault) (e : Stage S) → EarlyDoes means steps s x r e
       → (r ≡ (early_turn next (means s) x).reply) × (shown means e ≡ (early_turn next (means s) x).then)
-  early_does s (effect.store address word) r e h =
-      (
-        h.3 ∙ ap (λ o. load_reply (load_result o)) h.2.ends,
-        ap (shown means) h.4 ∙ ap sight.loading (settles next decided s (store_request address word) h.0 h.1 h.2),
-      )
+  early_does s (effect.store address word) r e h = (
+    h.3 ∙ ap (λ o. load_reply (load_result o)) h.2.ends,
+    ap (shown means) h.4 ∙ ap sight.loading (settles next decided s (store_request address word) h.0 h.1 h.2),
+  )
   early_does s power_up r e h = (h.0, ap (shown means) h.1)
 
   late_does : (c d : Machine S) (x : LateEffect) (r : Reply) → LateDoes means steps c x r d
-      → (r ≡ (late_result next (core_meaning means c) x).0) × (core_meaning means d ≡ (late_result next (core_meaning means c) x).1)
+      → (r ≡ (late_result next (core_meaning means c) x).0)
+      × (core_meaning means d ≡ (late_result next (core_meaning means c) x).1)
   late_does c d (set_lines n) r h = (h.0, ap (core_meaning means) h.1)
   late_does c d (make_cycles n) r h =
       let all = cycles next decided n c d h.0 in
@@ -71,14 +71,17 @@ module _ {S : Type 0} {means : S → Meaning} {steps : S → Request → Answer 
       (h.1 ∙ ap Ok done.0, ap sight.running done.1)
 
   obeys : (e g : Stage S) (o : Order) (r : Result Reply JobFault) → AnswersOrder means steps e o r g
-      → (r ≡ (order_answer next (shown means e) o).reply) × (shown means g ≡ (order_answer next (shown means e) o).then)
+      → (r ≡ (order_answer next (shown means e) o).reply)
+      × (shown means g ≡ (order_answer next (shown means e) o).then)
   obeys (loading s) g o r h = early_obeys s (decision o).before r g h
   obeys (running s c) g o r h =
       let done = late_obeys c h.0 ((decision o).after c.processor c.observed.report) r h.1 in
       (done.0, ap (shown means) h.2 ∙ done.1)
 
   -- what is done with a line is what the function says of it
-  pub heeds : (e g : Stage S) (n : ℕ) (o : Result Order LineFault) (rs : List Reply) → AnswersLine means steps e n o rs g
-      → (rs ≡ (line_answer next (shown means e) n o).reply) × (shown means g ≡ (line_answer next (shown means e) n o).then)
+  pub heeds : (e g : Stage S) (n : ℕ) (o : Result Order LineFault) (rs : List Reply)
+      → AnswersLine means steps e n o rs g
+      → (rs ≡ (line_answer next (shown means e) n o).reply)
+      × (shown means g ≡ (line_answer next (shown means e) n o).then)
   heeds e g n (Err f) rs h = (h.0, ap (shown means) h.1)
   heeds e g n (Ok o) rs h = let all = obeys e g o h.0 h.1 in (h.2 ∙ ap (line_replies n) all.0, all.1)

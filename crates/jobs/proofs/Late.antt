@@ -46,7 +46,8 @@ module _ {S : Type 0} (means : S → Meaning) (steps : S → Request → Answer 
       by false e h = (reply.Set, ap (called (λ u. reply.Set)) e, (refl, h))
 
   pub runs : (n : ℕ) (q : Result Report Denial) → Runs steps (Upholds means steps b) n b q d
-      → LateAnswers means steps b (effect_if_granted (λ u. make_cycles n) (check_run n b.observed.report)) (called run_reply q) d
+      → LateAnswers means steps b (effect_if_granted (λ u. make_cycles n) (check_run n b.observed.report))
+      (called run_reply q) d
   runs n q h = by (check_run n b.observed.report) h
     where
       by : (o : Result (Unit {0}) Denial)
@@ -56,11 +57,13 @@ module _ {S : Type 0} (means : S → Meaning) (steps : S → Request → Answer 
       by (Ok u) h = (run_reply d.observed.report, ap (called run_reply) h.1, (h.0, refl))
 
   pub shows : (n : ℕ) (q : Result ℕ Denial) → q ≡ register_reply n b.processor.state → d ≡ b
-      → LateAnswers means steps b (effect_if_granted (λ w. reply_with (reply.Shown n w)) (register_reply n b.processor.state))
+      → LateAnswers means steps b
+      (effect_if_granted (λ w. reply_with (reply.Shown n w)) (register_reply n b.processor.state))
       (called (reply.Shown n) q) d
   shows n q e h = by (register_reply n b.processor.state) e
     where
       by : (o : Result ℕ Denial) → q ≡ o
-          → LateAnswers means steps b (effect_if_granted (λ w. reply_with (reply.Shown n w)) o) (called (reply.Shown n) q) d
+          → LateAnswers means steps b (effect_if_granted (λ w. reply_with (reply.Shown n w)) o)
+          (called (reply.Shown n) q) d
       by (Ok w) e = (reply.Shown n w, ap (called (reply.Shown n)) e, (refl, h))
       by (Err f) e = (ap (called (reply.Shown n)) e, h)

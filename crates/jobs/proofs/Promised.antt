@@ -12,7 +12,8 @@ use Rattle.r3000.specs.Machine.{core_at_power_up}
 use Rattle.r3000.specs.Promise.{AllKeepPromise}
 use Rattle.r3000.specs.Reached.{StageIsReached}
 
-module _ {S : Type 0} {means : S → Meaning} {steps : S → Request → Answer → S → Type 0} (kept : (start : S) → AllKeepPromise means steps start) where
+module _ {S : Type 0} {means : S → Meaning} {steps : S → Request → Answer → S → Type 0}
+    (kept : (start : S) → AllKeepPromise means steps start) where
   -- what is reached keeps the promise
   pub promised : (e : Stage S) → StageIsReached means steps e → StageIsPromised means steps e
   promised (loading s) r = tt

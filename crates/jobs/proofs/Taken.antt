@@ -16,7 +16,8 @@ last_more (q ∷ rs) r = ap (λ o. elim o [ Some p ↦ Some p | None ↦ Some q 
 
 module _ {S : Type 0} (means : S → Meaning) (steps : S → Request → Answer → S → Type 0) where
   -- a job begins before a start
-  pub reached_first : (limit : ℕ) (pile : S) (bytes : List ℕ) → StageIsReached means steps (first_standing limit pile bytes).stage
+  pub reached_first : (limit : ℕ) (pile : S) (bytes : List ℕ)
+      → StageIsReached means steps (first_standing limit pile bytes).stage
   reached_first limit pile bytes = by (nat_lt limit (length bytes))
     where
       by : (t : Bool)

@@ -17,8 +17,8 @@ use Rattle.r3000.specs.Machine.{History, no_history}
 use Rattle.r3000.specs.declared.processor.Processor.{Processor}
 
 module _ {B : Type 0} where
-  -- the stage_of_station of a job, on the pile of its start; a job has its pile whenever it is not at work, and without one it would be
-  -- at its end
+  -- the stage_of_station of a job, on the pile of its start; a job has its pile whenever it is not at work, and
+  -- without one it would be at its end
   abbrev pub job_stage : B → History → Option B → Option Processor → Stage B
   job_stage s h (Some pile) processor = stage_of_station s h (record { pile = pile; processor = processor })
   job_stage s h None processor = loading s
@@ -54,8 +54,8 @@ module _ {B : Type 0} where
         ]
 
     module _ (steps : B → Request → Answer → B → Type 0) where
-      -- what a reply that was given leaves to come: whatever comes after it is, with it, what came before; and none is given
-      -- only where none is to come
+      -- what a reply that was given leaves to come: whatever comes after it is, with it, what came before; and none is
+      -- given only where none is to come
       abbrev pub Leaves : Standing B → Option Reply → Standing B → Type 0
       Leaves x r y =
           MatchOption r (AreToCome means steps x [])
@@ -67,10 +67,13 @@ module _ {B : Type 0} where
         pub history : History
         pub gives : GivesNext means steps (standing_of s h x) r (standing_of pile history y)
         -- where the core could be reached, the promise holds of it, and the replies_to_lines are those of the job
-        pub promise : StageIsReached means steps (standing_of s h x).stage → StageIsPromised means steps (standing_of pile history y).stage
-        pub leaves : StageIsReached means steps (standing_of s h x).stage → Leaves (standing_of s h x) r (standing_of pile history y)
+        pub promise : StageIsReached means steps (standing_of s h x).stage
+            → StageIsPromised means steps (standing_of pile history y).stage
+        pub leaves : StageIsReached means steps (standing_of s h x).stage
+            → Leaves (standing_of s h x) r (standing_of pile history y)
 
       -- and, where the pile is decided, the value of the function
       pub record NextGives (x : Job B) (r : Option Reply) (y : Job B) : Type 0 where
         pub turns : (s : B) (h : History) → NextTurns s h x r y
-        pub exact : (next : Meaning → Request → Meaning) → IsDecided means steps next → YieldsFirst (replies_to_come next) x r y
+        pub exact : (next : Meaning → Request → Meaning) → IsDecided means steps next
+            → YieldsFirst (replies_to_come next) x r y

@@ -46,7 +46,10 @@ decision order.Start = record { before = Ok power_up; after = λ p counts. Err f
 decision (order.Lines n) =
     record { before = Err fault.BeforeStart; after = λ p counts. effect_if_granted (λ u. set_lines n) (lines_reply n) }
 decision (order.Run n) =
-    record { before = Err fault.BeforeStart; after = λ p counts. effect_if_granted (λ u. make_cycles n) (check_run n counts) }
+    record {
+      before = Err fault.BeforeStart;
+      after = λ p counts. effect_if_granted (λ u. make_cycles n) (check_run n counts);
+    }
 decision (order.Show n) =
     record {
       before = Err fault.BeforeStart;

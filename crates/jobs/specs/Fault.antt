@@ -5,8 +5,8 @@ use Rattle.jobs.specs.declared.fault.JobFault.TheVariants.{TooLong, Line, AfterS
 use Rattle.r3000.specs.Denial as core
 use Rattle.text.specs.Fault as line
 
--- a job that is too long 1, a line without meaning 2 or 3, after the start 4, before it 5, what the core denies, a refused
--- load 10
+-- a job that is too long 1, a line without meaning 2 or 3, after the start 4, before it 5, what the core denies, a
+-- refused load 10
 abbrev pub number_of : JobFault → ℕ
 number_of TooLong = 1
 number_of (Line f) = line.number_of f

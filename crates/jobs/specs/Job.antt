@@ -1,5 +1,6 @@
 -- A whole job. Assumes nothing.
-use Rattle.std.specs.Prelude.{◌≡◌, ℕ, ◌+◌, cond, List, [], ◌∷◌, ◌++◌, length, Some, None, Ok, Err, Option, Result, ◌==◌, nat_lt}
+use Rattle.std.specs.Prelude.{◌≡◌, ℕ, ◌+◌, cond, List, [], ◌∷◌, ◌++◌, length, Some, None, Ok, Err, Option, Result}
+use Rattle.std.specs.Prelude.{◌==◌, nat_lt}
 use Rattle.bus.specs.Meaning.{Meaning}
 use Rattle.bus.specs.declared.request.Answer.{Answer}
 use Rattle.bus.specs.declared.request.Request.{Request}
@@ -32,8 +33,8 @@ abbrev pub line_replies : ℕ → Result Reply JobFault → List Reply
 line_replies n (Ok r) = r ∷ []
 line_replies n (Err f) = denial_reply n f ∷ []
 
--- where a job stands: the replies of the last line that are still due, where it has come to, and the lines that are left, with
--- the number of the first of them
+-- where a job stands: the replies of the last line that are still due, where it has come to, and the lines that are
+-- left, with the number of the first of them
 pub record Standing (S : Type 0) : Type 0 where
   pub due : List Reply
   pub stage : Stage S
@@ -56,25 +57,28 @@ module _ {S : Type 0} (means : S → Meaning) (steps : S → Request → Answer 
   -- a line that was read: denied by its form, or an order
   abbrev pub AnswersLine : Stage S → ℕ → Result Order LineFault → List Reply → Stage S → Type 0
   AnswersLine e n (Err f) rs g = (rs ≡ line_replies n (Err (fault.Line f))) × (g ≡ e)
-  AnswersLine e n (Ok o) rs g = (q : Result Reply JobFault) × AnswersOrder means steps e o q g × (rs ≡ line_replies n q)
+  AnswersLine e n (Ok o) rs g =
+      (q : Result Reply JobFault) × AnswersOrder means steps e o q g × (rs ≡ line_replies n q)
 
   -- lines one after another, numbered, each with its replies; after each the promise holds
   abbrev pub AnswersLines : Stage S → ℕ → List (List ℕ) → List Reply → Stage S → Type 0
   AnswersLines e n [] rs f = (rs ≡ []) × (f ≡ e)
   AnswersLines e n (l ∷ ls) rs f =
-      (here : List Reply) × (qs : List Reply) × (g : Stage S) × (rs ≡ here ++ qs) × AnswersLine e n (read_line l) here g
+      (here : List Reply) × (qs : List Reply) × (g : Stage S) × (rs ≡ here ++ qs)
+      × AnswersLine e n (read_line l) here g
       × StageIsPromised means steps g × AnswersLines g (n + 1) ls qs f
 
   -- replies that are all that a job still gives: those that are due, and those to the lines that are left
   abbrev pub AreToCome : Standing S → List Reply → Type 0
-  AreToCome x rs = (qs : List Reply) × (end : Stage S) × (rs ≡ x.due ++ qs) × AnswersLines x.stage x.number x.left qs end
+  AreToCome x rs =
+      (qs : List Reply) × (end : Stage S) × (rs ≡ x.due ++ qs) × AnswersLines x.stage x.number x.left qs end
 
   -- a whole job on a pile, with all its replies
   abbrev pub AnswersJob : ℕ → S → List ℕ → List Reply → Type 0
   AnswersJob limit pile job rs = AreToCome (first_standing limit pile job) rs
 
-  -- how a job gives its next reply: one that is due; where none is, it does the next line, and gives the first of the line's
-  -- replies; where no line is left either, it gives none and stays as it is
+  -- how a job gives its next reply: one that is due; where none is, it does the next line, and gives the first of the
+  -- line's replies; where no line is left either, it gives none and stays as it is
   abbrev pub GivesNext : Standing S → Option Reply → Standing S → Type 0
   GivesNext x r y =
       elim x.due [
@@ -82,7 +86,8 @@ module _ {S : Type 0} (means : S → Meaning) (steps : S → Request → Answer 
         | [] ↦ elim x.left [
           | [] ↦ (r ≡ None) × (y ≡ x)
           | l ∷ ls ↦
-              (d : Reply) × (ds : List Reply) × (g : Stage S) × AnswersLine x.stage x.number (read_line l) (d ∷ ds) g × (r ≡ Some d)
+              (d : Reply) × (ds : List Reply) × (g : Stage S) × AnswersLine x.stage x.number (read_line l) (d ∷ ds) g
+              × (r ≡ Some d)
               × (y ≡ record { due = ds; stage = g; number = x.number + 1; left = ls })
         ]
       ]

@@ -51,7 +51,8 @@ module _ {S : Type 0} (means : S → Meaning) (steps : S → Request → Answer 
   -- an effect before the start, on a memory
   abbrev pub EarlyDoes : S → EarlyEffect → Result Reply JobFault → Stage S → Type 0
   EarlyDoes s (effect.store address word) r e =
-      (q : Settled) × (t : S) × Settles means steps s (store_request address word) q t × (r ≡ load_reply (load_result q.outcome))
+      (q : Settled) × (t : S) × Settles means steps s (store_request address word) q t
+      × (r ≡ load_reply (load_result q.outcome))
       × (e ≡ loading t)
   EarlyDoes s power_up r e = (r ≡ Ok reply.Started) × (e ≡ running s (core_at_power_up s))
 
@@ -89,10 +90,14 @@ module _ {S : Type 0} (means : S → Meaning) (steps : S → Request → Answer 
 
 -- the code's station, on the pile of its start and with a history behind it
 abbrev pub stage_of_station : {B : Type 0} → B → History → Station B → Stage B
-stage_of_station s h x = elim x.processor [ Some processor ↦ running s (machine_of_parts h processor x.pile) | None ↦ loading x.pile ]
+stage_of_station s h x = elim x.processor [
+  | Some processor ↦ running s (machine_of_parts h processor x.pile)
+  | None ↦ loading x.pile
+]
 
 -- whatever is behind a station, something happens to it, and that is then behind it too; and the promise is upheld
-abbrev pub StationDoes : {B : Type 0} → (B → Meaning) → (B → Request → Answer → B → Type 0) → (Stage B → Stage B → Type 0)
+abbrev pub StationDoes : {B : Type 0} → (B → Meaning) → (B → Request → Answer → B → Type 0)
+    → (Stage B → Stage B → Type 0)
     → Station B → Station B → Type 0
 StationDoes {B} means steps R c d =
     (s : B) (h : History) → (t : B) × (k : History) × R (stage_of_station s h c) (stage_of_station t k d)

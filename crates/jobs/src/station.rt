@@ -8,7 +8,8 @@ ghost use Rattle.bus.specs.Settled.{Settles};
 ghost use Rattle.bus.specs.declared.settle.Settled.{Settled};
 ghost use Rattle.jobs.specs.Decision.{decision};
 ghost use Rattle.jobs.specs.Job.{AnswersLine, denial_reply};
-ghost use Rattle.jobs.specs.Station.{EarlyAnswers, StationDoes, LateAnswers, AnswersOrder, run_reply, load_result, load_reply, loading, running, stage_of_station, store_request};
+ghost use Rattle.jobs.specs.Station.{EarlyAnswers, StationDoes, LateAnswers, AnswersOrder, run_reply, load_result};
+ghost use Rattle.jobs.specs.Station.{load_reply, loading, running, stage_of_station, store_request};
 ghost use Rattle.text.specs.Line.{read_line};
 
 use super::fault::{JobFault, LoadFault};
@@ -34,7 +35,8 @@ pub(crate) struct Station<B> {
 /// Writes a word, and waits it out. A refusal of the bus becomes the load's fault.
 fn write<B: Bus>(pile: &mut B, address: u32, word: u32) -> Result<(), LoadFault>
     ensures { (q : Settled)
-        × Settles B.Bus.means B.Bus.steps pile.old (store_request address word) q pile.new × (result ≡ load_result q.outcome) }
+        × Settles B.Bus.means B.Bus.steps pile.old (store_request address word) q pile.new
+        × (result ≡ load_result q.outcome) }
 {
     settle(pile, Request::write(Width::Word, address, word)).outcome?;
     Ok(())
@@ -74,7 +76,8 @@ pub(crate) fn denial(line: u32, fault: JobFault) -> Reply
 
 /// An order before the start.
 fn early<B: Bus>(mut pile: B, order: Order) -> (Station<B>, Result<Reply, JobFault>)
-    ensures { EarlyAnswers B.Bus.means B.Bus.steps pile (decision order).before result.1 (stage_of_station pile no_history result.0) }
+    ensures { EarlyAnswers B.Bus.means B.Bus.steps pile (decision order).before result.1
+        (stage_of_station pile no_history result.0) }
 {
     match order {
         Order::Load(address, word) => {
@@ -130,7 +133,8 @@ impl<B: Bus> Station<B> {
 
     /// Does what a line asks for.
     fn obey(self, order: Order) -> (Station<B>, Result<Reply, JobFault>)
-        ensures { StationDoes B.Bus.means B.Bus.steps (λ e f. AnswersOrder B.Bus.means B.Bus.steps e order result.1 f) self result.0 }
+        ensures { StationDoes B.Bus.means B.Bus.steps (λ e f. AnswersOrder B.Bus.means B.Bus.steps e order result.1 f)
+            self result.0 }
     {
         promise::<B>();
         let Some(processor) = self.processor else {
@@ -143,7 +147,9 @@ impl<B: Bus> Station<B> {
 
     /// A line, and its reply.
     pub(crate) fn heed(self, number: u32, line: &[u8]) -> (Station<B>, Reply)
-        ensures { StationDoes B.Bus.means B.Bus.steps (λ e f. AnswersLine B.Bus.means B.Bus.steps e number (read_line line.now) (result.1 ∷ []) f) self result.0 }
+        ensures { StationDoes B.Bus.means B.Bus.steps
+            (λ e f. AnswersLine B.Bus.means B.Bus.steps e number (read_line line.now) (result.1 ∷ []) f) self
+            result.0 }
     {
         promise::<B>();
         let (station, end) = match read(line) {

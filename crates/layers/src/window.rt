@@ -25,7 +25,9 @@ impl<B: Bus> Window<B> {
 impl<B> Window<B> {
     /// The address below that an address of the window stands for; none from the limit up.
     fn onto(&self, address: u32) -> Option<u32>
-        ensures { result ≡ (if nat_lt address (limit_address self.now.limit) then Some (address_below self.now.base address) else None) }
+        ensures { result
+            ≡ (if nat_lt address (limit_address self.now.limit) then Some (address_below self.now.base address) else
+            None) }
     {
         let within = address < word_of(self.limit);
         within.then_some(word_of(self.base).wrapping_add(address))

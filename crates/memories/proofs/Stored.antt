@@ -28,7 +28,8 @@ held-set_same base bs i v x h e =
     let past : leb base x ≡ true = le-leb base x (omega arith) in
     rw (past, at, get_or-set_same bs i v 0 h)
 
-held-set_other : (base : ℕ) (bs : List ℕ) (i v x : ℕ) → (x ≡ base + i → ⊥) → byte_at base (set bs i v) x ≡ byte_at base bs x
+held-set_other : (base : ℕ) (bs : List ℕ) (i v x : ℕ) → (x ≡ base + i → ⊥)
+    → byte_at base (set bs i v) x ≡ byte_at base bs x
 held-set_other base bs i v x h = go (leb base x) refl
   where
     go : (b : Bool) → leb base x ≡ b → byte_at base (set bs i v) x ≡ byte_at base bs x
@@ -51,7 +52,9 @@ held-filled base bs at (suc n) d x h =
     before = filled at n d bs
 
     Goal : Type 0
-    Goal = byte_at base (set before (at + n) (d / 256 ^ n % 256)) x ≡ stored_byte (base + at) (suc n) d (byte_at base bs) x
+    Goal =
+        byte_at base (set before (at + n) (d / 256 ^ n % 256)) x
+        ≡ stored_byte (base + at) (suc n) d (byte_at base bs) x
 
     same : x ≡ base + (at + n) → Goal
     same e =
@@ -96,7 +99,8 @@ filled_byte at d bs = rw (add-zero, div-one)
 -- what a write does with the bytes of its word, at any width
 pub moves : (base address d at start : ℕ) (w : Width) (bs out : List ℕ)
     → Some at ≡ cond (is_outside base (length bs) (word_of address)) None (Some (word_of address - base))
-    → base + start ≡ first_address w address → start + byte_count w ≤ length bs → out ≡ filled start (byte_count w) d bs
+    → base + start ≡ first_address w address → start + byte_count w ≤ length bs
+    → out ≡ filled start (byte_count w) d bs
     → RegionSteps base bs (write_of w address d) (Done 0) base out
 moves base address d at start w bs out got from fits is =
     let inner = (inside base (length bs) (word_of address) at got).0 in

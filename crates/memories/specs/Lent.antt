@@ -19,4 +19,5 @@ pub record ReplacesWord (base : ℕ) (bytes : List ℕ) (address : ℕ) (word : 
   pub sized : length bytes' ≡ length bytes
   pub holds : (x : ℕ)
       → byte_at base bytes' x
-      ≡ cond (is_missing base bytes address) (byte_at base bytes x) (stored_byte (word_of address) 4 word (byte_at base bytes) x)
+      ≡ cond (is_missing base bytes address) (byte_at base bytes x)
+      (stored_byte (word_of address) 4 word (byte_at base bytes) x)

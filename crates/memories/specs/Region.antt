@@ -24,8 +24,9 @@ ram base bytes =
     }
 
 -- how such bytes go on: base and length stay, and the answer and every byte afterwards are determined
-pub record RegionSteps (base : ℕ) (bytes : List ℕ) (q : Request) (a : Answer) (base' : ℕ) (bytes' : List ℕ) : Type 0 where
-  pub based : base' ≡ base
-  pub sized : length bytes' ≡ length bytes
-  pub answered : a ≡ answer (ram base bytes) q
-  pub holds : (address : ℕ) → byte_at base' bytes' address ≡ byte_after (ram base bytes) q address
+pub record RegionSteps (base : ℕ) (bytes : List ℕ) (q : Request) (a : Answer) (base' : ℕ) (bytes' : List ℕ) : Type 0
+  where
+    pub based : base' ≡ base
+    pub sized : length bytes' ≡ length bytes
+    pub answered : a ≡ answer (ram base bytes) q
+    pub holds : (address : ℕ) → byte_at base' bytes' address ≡ byte_after (ram base bytes) q address

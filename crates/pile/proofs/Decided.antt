@@ -70,15 +70,18 @@ module _ {A : Type 0} (means : A → Meaning) (steps : A → Request → Answer 
           → (delay_means means t).waits x ≡ (meaning_after m q).waits x
       go true e h1 =
           let stalls : is_stalled m q ≡ true = lt-ltb 0 _ (omega (arith, ltb-true 0 c e)) in
-          subst₃ (λ n o w. count_left n o x + w ≡ (meaning_after m q).waits x) (sym same_top) (sym h1.1) (sym (at_once t.below x))
+          subst₃ (λ n o w. count_left n o x + w ≡ (meaning_after m q).waits x) (sym same_top) (sym h1.1)
+          (sym (at_once t.below x))
           (falls (is_stalled m q) (same_access (access_of q) x) c k _ _ stalls bound none (never s.below))
       go false e h1 =
           let goes : is_stalled m q ≡ false = le-ltb 0 _ (omega (arith, ltb-false 0 c e, none)) in
           let answers : a ≡ answer m q = (keeps.tells s q a t h).answered in
           let ends = idle (access_of q) (is_stalled m q) (is_refused m q) (done_word m q) goes in
           let done : t.state ≡ Idle = h1.1 ∙ ap (state_after (access_of q)) answers ∙ ends in
-          subst₃ (λ n o w. count_left n o x + w ≡ (meaning_after m q).waits x) (sym same_top) (sym done) (sym (at_once t.below x))
-          (fills (is_stalled m q) (same_access (access_of q) x) c k ((means s.below).waits (access_of q)) _ goes (never s.below))
+          subst₃ (λ n o w. count_left n o x + w ≡ (meaning_after m q).waits x) (sym same_top) (sym done)
+          (sym (at_once t.below x))
+          (fills (is_stalled m q) (same_access (access_of q) x) c k ((means s.below).waits (access_of q)) _ goes
+          (never s.below))
 
   delay_decided : (s : Delay A) (q : Request) (a : Answer) (t : Delay A) → DelaySteps means steps s q a t
       → delay_means means t ≡ meaning_after (delay_means means s) q

@@ -32,7 +32,8 @@ split_mark = 0xA0000000
 -- RAM of the low and of the high bytes, with one wait for each request
 abbrev pub job_pile : List ℕ → List ℕ → Meaning
 job_pile low high =
-    delay 1 Idle (split split_mark (ram low_base (placed_bytes low_base low)) (ram high_base (placed_bytes high_base high)))
+    delay 1 Idle
+    (split split_mark (ram low_base (placed_bytes low_base low)) (ram high_base (placed_bytes high_base high)))
 
 -- a delay over a split of two RAMs: what it means, and how it goes on
 abbrev pub pile_means : Delay (Split Ram Ram) → Meaning

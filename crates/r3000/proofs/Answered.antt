@@ -37,7 +37,8 @@ stilled m = still (refusals m) m.byte
 pub answers_still : (m : Meaning) (q : Request) → is_stalled m q ≡ false → answer m q ≡ answer (stilled m) q
 answers_still m q e = rw e
 
-pub bytes_still : StillKeeps → (m : Meaning) (q : Request) → is_stalled m q ≡ false → (x : ℕ) → byte_after m q x ≡ changed (stilled m) (Some q) x
+pub bytes_still : StillKeeps → (m : Meaning) (q : Request) → is_stalled m q ≡ false → (x : ℕ)
+    → byte_after m q x ≡ changed (stilled m) (Some q) x
 bytes_still memory m q e x = (rw e) ∙ sym (memory (refusals m) m.byte q x)
 
 -- where it is is_stalled, the bytes stay
@@ -49,12 +50,16 @@ abbrev pub waiting : Meaning → Option Request → ℕ
 waiting m None = 0
 waiting m (Some q) = m.waits (access_of q)
 
-module _ {S : Type 0} {means : S → Meaning} {steps : S → Request → Answer → S → Type 0} (memory : StillKeeps) (keeps : Keeps means steps) where
+module _ {S : Type 0} {means : S → Meaning} {steps : S → Request → Answer → S → Type 0} (memory : StillKeeps)
+    (keeps : Keeps means steps) where
   -- a request that was answered by something else than wait
   pub unfrozen : (s t : S) (o : Option Request) (a : Option Answer) → Asks steps s o a t → false ≡ is_wait a
       → (a ≡ option_map (answer (stilled (means s))) o) × ((means t).byte ≡ changed (stilled (means s)) o)
   unfrozen s t None a h e = (h.0, ap (λ p. (means p).byte) h.1)
-  unfrozen s t (Some q) a h e = (h.1 ∙ ap Some (told.answered ∙ answers_still (means s) q free), fun_ext (λ x. told.bytes x ∙ bytes_still memory (means s) q free x))
+  unfrozen s t (Some q) a h e = (
+    h.1 ∙ ap Some (told.answered ∙ answers_still (means s) q free),
+    fun_ext (λ x. told.bytes x ∙ bytes_still memory (means s) q free x),
+  )
     where
       told : Answers (means s) q h.0 (means t)
       told = keeps.tells s q h.0 t h.2
@@ -75,9 +80,13 @@ module _ {S : Type 0} {means : S → Meaning} {steps : S → Request → Answer 
       held = sym (stalls (means s) q) ∙ sym (e ∙ ap is_wait (h.1 ∙ ap Some told.answered))
 
   -- what is is_refused, and W, stay
-  pub fixed : (s t : S) (o : Option Request) (a : Option Answer) → Asks steps s o a t → (refusals (means t) ≡ refusals (means s)) × ((means t).longest ≡ (means s).longest)
+  pub fixed : (s t : S) (o : Option Request) (a : Option Answer) → Asks steps s o a t
+      → (refusals (means t) ≡ refusals (means s)) × ((means t).longest ≡ (means s).longest)
   fixed s t None a h = (ap (λ p. refusals (means p)) h.1, ap (λ p. (means p).longest) h.1)
-  fixed s t (Some q) a h = (ap₂ (λ u w. record { unreadable = u; unwritable = w }) (fun_ext told.unreadable) (fun_ext told.unwritable), told.longest)
+  fixed s t (Some q) a h = (
+    ap₂ (λ u w. record { unreadable = u; unwritable = w }) (fun_ext told.unreadable) (fun_ext told.unwritable),
+    told.longest,
+  )
     where
       told : Answers (means s) q h.0 (means t)
       told = keeps.tells s q h.0 t h.2
@@ -86,14 +95,20 @@ module _ {S : Type 0} {means : S → Meaning} {steps : S → Request → Answer 
   abbrev pub world : Machine S → World
   world c = record { state = c.processor.state; bytes = (means c.pile).byte }
 
-  pub one_tick : (c d : Machine S) → Cycle steps c false d → world d ≡ tick (refusals (means c.pile)) c.processor.lines (world c)
+  pub one_tick : (c d : Machine S) → Cycle steps c false d
+      → world d ≡ tick (refusals (means c.pile)) c.processor.lines (world c)
   unfolding tick
   one_tick c d h =
       let w : Row = current_row c.processor.state in
-      ap₂ (λ s b. record { state = s; bytes = b }) (state_of h ∙ ap (λ a. advanced w c.processor.lines (worked w c.processor.state) a c.processor.state) now.0) now.1
+      ap₂ (λ s b. record { state = s; bytes = b })
+      (state_of h ∙ ap (λ a. advanced w c.processor.lines (worked w c.processor.state) a c.processor.state) now.0)
+      now.1
     where
-      now : (h.answer ≡ option_map (answer (stilled (means c.pile))) (next_request c)) × ((means d.pile).byte ≡ changed (stilled (means c.pile)) (next_request c))
+      now : (h.answer ≡ option_map (answer (stilled (means c.pile))) (next_request c))
+          × ((means d.pile).byte ≡ changed (stilled (means c.pile)) (next_request c))
       now = unfrozen c.pile d.pile (next_request c) h.answer h.asks h.freeze
 
   pub no_tick : (c d : Machine S) → Cycle steps c true d → world d ≡ world c
-  no_tick c d h = ap₂ (λ s b. record { state = s; bytes = b }) (state_of h) (frozen c.pile d.pile (next_request c) h.answer h.asks h.freeze).0
+  no_tick c d h =
+      ap₂ (λ s b. record { state = s; bytes = b }) (state_of h)
+      (frozen c.pile d.pile (next_request c) h.answer h.asks h.freeze).0

@@ -5,7 +5,8 @@ use Rattle.bus.specs.Meaning.{Keeps, Meaning}
 use Rattle.bus.specs.declared.request.Answer.{Answer}
 use Rattle.bus.specs.declared.request.Request.{Request}
 use Rattle.r3000.specs.Cycle.{Asks, Cycle, Cycles, core_after_cycle, next_request, is_wait}
-use Rattle.r3000.specs.Decided.{CyclesAsDecided, meaning_after_cycle, core_meaning, cycle_answer, after_one_cycle, after_cycles}
+use Rattle.r3000.specs.Decided.{CyclesAsDecided, meaning_after_cycle, core_meaning, cycle_answer, after_one_cycle}
+use Rattle.r3000.specs.Decided.{after_cycles}
 use Rattle.r3000.specs.Machine.{Machine}
 use Rattle.r3000.specs.Promise.{Upholds}
 
@@ -21,7 +22,9 @@ module _ {S : Type 0} {means : S → Meaning} {steps : S → Request → Answer 
       → core_meaning means d ≡ after_one_cycle next (core_meaning means c)
   one_cycle c d frozen h =
       let both = asks (next_request c) c.pile h.answer d.pile h.asks in
-      let seen = λ (f : Bool) (a : Option Answer) (m : Meaning). core_meaning (λ n. n) (core_after_cycle f a m (core_meaning means c)) in
+      let seen =
+      λ (f : Bool) (a : Option Answer) (m : Meaning).
+      core_meaning (λ n. n) (core_after_cycle f a m (core_meaning means c)) in
       let same : core_meaning means d ≡ seen frozen h.answer (means d.pile) = ap (core_meaning means) h.after in
       same ∙ ap (λ f. seen f h.answer (means d.pile)) h.freeze ∙ ap₂ (λ a m. seen (is_wait a) a m) both.0 both.1
 

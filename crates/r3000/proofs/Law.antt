@@ -20,7 +20,8 @@ use Rattle.r3000.proofs.Zero.{zero_advanced}
 one_flag : (o : Option Fault) (f g : Fault) → o ≡ Some f → o ≡ Some g → f ≡ g
 one_flag o f g h k = let same : Some f ≡ Some g = sym h ∙ k in cc
 
-module _ {S : Type 0} {means : S → Meaning} {steps : S → Request → Answer → S → Type 0} (below : Below) (keeps : Keeps means steps) (start : S) where
+module _ {S : Type 0} {means : S → Meaning} {steps : S → Request → Answer → S → Type 0} (below : Below)
+    (keeps : Keeps means steps) (start : S) where
   on_the_way : (c : Machine S) → IsReached steps start c → OnTheWay below keeps start c.observed.history c
   on_the_way c IsReached.power_up = way_start below keeps start
   on_the_way c (IsReached.cycle b d f r k) = way_cycle below keeps start b d f k (on_the_way b r)
@@ -31,9 +32,13 @@ module _ {S : Type 0} {means : S → Meaning} {steps : S → Request → Answer 
   soon c (IsReached.cycle b d f r k) = soon_cycle below keeps start b d f k (soon b r)
   soon c (IsReached.set_lines b l few r) = soon_lines below keeps start b.observed.history.since b l (soon b r)
 
-  zero_cycle : (c d : Machine S) (f : Bool) → Cycle steps c f d → reg d.processor.state.regs 0 ≡ reg c.processor.state.regs 0
+  zero_cycle : (c d : Machine S) (f : Bool) → Cycle steps c f d
+      → reg d.processor.state.regs 0 ≡ reg c.processor.state.regs 0
   zero_cycle c d true k = ap (λ s. reg s.regs 0) (state_of k)
-  zero_cycle c d false k = ap (λ s. reg s.regs 0) (state_of k) ∙ zero_advanced (current_row c.processor.state) c.processor.lines (worked (current_row c.processor.state) c.processor.state) k.answer c.processor.state
+  zero_cycle c d false k =
+      ap (λ s. reg s.regs 0) (state_of k)
+      ∙ zero_advanced (current_row c.processor.state) c.processor.lines
+      (worked (current_row c.processor.state) c.processor.state) k.answer c.processor.state
 
   register_0 : (c : Machine S) → IsReached steps start c → reg c.processor.state.regs 0 ≡ 0
   register_0 c IsReached.power_up = refl

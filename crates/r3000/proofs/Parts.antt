@@ -10,7 +10,8 @@ use Rattle.r3000.specs.declared.report.Report.{Report}
 module _ {S : Type 0} {steps : S → Request → Answer → S → Type 0} {c d : Machine S} {frozen : Bool} where
   pub state_of : (k : Cycle steps c frozen d) → d.processor.state
       ≡ cond frozen c.processor.state
-      (advanced (current_row c.processor.state) c.processor.lines (worked (current_row c.processor.state) c.processor.state)
+      (advanced (current_row c.processor.state) c.processor.lines
+      (worked (current_row c.processor.state) c.processor.state)
       k.answer c.processor.state)
   state_of k = ap (λ m. m.processor.state) k.after
 

@@ -1,5 +1,6 @@
 -- The next boundary is near: what is left of the path falls with every granted cycle. Assumes nothing.
-use Rattle.std.proofs.Common.{◌≡◌, ℕ, zero, suc, ◌+◌, ◌-◌, ◌*◌, ◌<◌, ◌≤◌, Bool, true, false, cond, T, ltb, leb, ◌∷◌, Some, None, Option, sym, refl, ap, ◌∙◌, subst, add-mul, sub-add_cancel, arith}
+use Rattle.std.proofs.Common.{◌≡◌, ℕ, zero, suc, ◌+◌, ◌-◌, ◌*◌, ◌<◌, ◌≤◌, Bool, true, false, cond, T, ltb, leb, ◌∷◌}
+use Rattle.std.proofs.Common.{Some, None, Option, sym, refl, ap, ◌∙◌, subst, add-mul, sub-add_cancel, arith}
 use Rattle.std.proofs.lemmas.Bool.{leb-true, ltb-true, true≢false}
 use Rattle.bus.specs.Meaning.{Keeps, Meaning, IsSound}
 use Rattle.bus.specs.declared.request.Access.{Access}
@@ -25,7 +26,8 @@ use Rattle.rows.specs.declared.row.Transfer.TheVariants as m
 bound : (n : Meaning) → IsSound n → (x : Access) → n.waits x ≤ 1 * n.longest
 bound n h x = omega (arith, h.waits x)
 
-waiting_bound : (n : Meaning) → IsSound n → (flag : Option Fault) (g : Regs) (t : Transfer) (res : ℕ) → waiting n (requested flag (access g t res)) ≤ accesses t * n.longest
+waiting_bound : (n : Meaning) → IsSound n → (flag : Option Fault) (g : Regs) (t : Transfer) (res : ℕ)
+    → waiting n (requested flag (access g t res)) ≤ accesses t * n.longest
 waiting_bound n h (Some c) g t res = omega arith
 waiting_bound n h None g m.Nop res = omega arith
 waiting_bound n h None g m.If res = bound n h _
@@ -35,7 +37,8 @@ waiting_bound n h None g m.Wb res = bound n h _
 waiting_bound n h None g m.Lw res = bound n h _
 
 -- the first access of several, taken out
-spare : (one several longest waits : ℕ) → one ≤ several → waits ≤ one * longest → (several - one) * longest + waits ≤ several * longest
+spare : (one several longest waits : ℕ) → one ≤ several → waits ≤ one * longest
+    → (several - one) * longest + waits ≤ several * longest
 spare one several longest waits few h =
     omega (arith, add-mul (several - one) one longest, ap (λ n. n * longest) (sub-add_cancel few))
 
@@ -59,12 +62,15 @@ apart false b h e = h
 
 -- and the rest of the path is one row shorter
 rest : (rows touch : ℕ) (c : State) → T (ending rows touch c.row) → ends (current_row c).sequencing ≡ false
-    → (n : ℕ) × (rows ≡ n + 1) × T (all (ending n (touch - touches c)) (successors (current_row c).sequencing (current_row c).amic))
+    → (n : ℕ) × (rows ≡ n + 1)
+    × T (all (ending n (touch - touches c)) (successors (current_row c).sequencing (current_row c).amic))
 unfolding ending
 rest zero touch c h e = absurd h
-rest (suc rows) touch c h e = (rows, omega arith, apart (ends (current_row c).sequencing) _ (right (leb (touches c) touch) _ h) e)
+rest (suc rows) touch c h e =
+    (rows, omega arith, apart (ends (current_row c).sequencing) _ (right (leb (touches c) touch) _ h) e)
 
-module _ {S : Type 0} {means : S → Meaning} {steps : S → Request → Answer → S → Type 0} (below : Below) (keeps : Keeps means steps) (start : S) where
+module _ {S : Type 0} {means : S → Meaning} {steps : S → Request → Answer → S → Type 0} (below : Below)
+    (keeps : Keeps means steps) (start : S) where
   -- the rows of the way to the boundary, its accesses, and that all of it is near
   pub record Soon (since : ℕ) (c : Machine S) : Type 0 where
     pub longest : (means c.pile).longest ≡ (means start).longest
@@ -72,10 +78,14 @@ module _ {S : Type 0} {means : S → Meaning} {steps : S → Request → Answer 
     pub rows : ℕ
     pub touch : ℕ
     pub path : T (ending rows touch c.processor.state.row)
-    pub near : since + rows + ((touch - touches c.processor.state) * (means start).longest + waiting (means c.pile) (next_request c)) ≤ 7 + 2 * (means start).longest
+    pub near : since + rows
+        + ((touch - touches c.processor.state) * (means start).longest + waiting (means c.pile) (next_request c)) ≤ 7
+        + 2 * (means start).longest
 
   -- a row that is come to
-  comes : (since : ℕ) (c : Machine S) → (means c.pile).longest ≡ (means start).longest → c.processor.state.row < 1024 → (rows touch : ℕ) → T (ending rows touch c.processor.state.row) → since + rows + touch * (means start).longest ≤ 7 + 2 * (means start).longest → Soon since c
+  comes : (since : ℕ) (c : Machine S) → (means c.pile).longest ≡ (means start).longest → c.processor.state.row < 1024
+      → (rows touch : ℕ) → T (ending rows touch c.processor.state.row)
+      → since + rows + touch * (means start).longest ≤ 7 + 2 * (means start).longest → Soon since c
   comes since c longest row rows touch path near =
       record {
         longest = longest;
@@ -85,9 +95,15 @@ module _ {S : Type 0} {means : S → Meaning} {steps : S → Request → Answer 
         path = path;
         near =
             let few : waiting (means c.pile) (next_request c) ≤ touches c.processor.state * (means start).longest =
-            subst (λ w. waiting (means c.pile) (next_request c) ≤ touches c.processor.state * w) longest (waiting_bound (means c.pile) (keeps.sound c.pile) c.processor.state.flag c.processor.state.regs (current_row c.processor.state).transfer _)
+            subst (λ w. waiting (means c.pile) (next_request c) ≤ touches c.processor.state * w) longest
+            (waiting_bound (means c.pile) (keeps.sound c.pile) c.processor.state.flag c.processor.state.regs
+            (current_row c.processor.state).transfer _)
             in
-            omega (arith, spare (touches c.processor.state) touch (means start).longest _ (first rows touch c.processor.state path) few);
+            omega (
+              arith,
+              spare (touches c.processor.state) touch (means start).longest _
+                  (first rows touch c.processor.state path) few,
+            );
       }
 
   -- a boundary, and power-up
@@ -98,13 +114,20 @@ module _ {S : Type 0} {means : S → Meaning} {steps : S → Request → Answer 
   soon_start = anew (core_at_power_up start) refl (omega arith)
 
   -- the row after an unfrozen cycle, if all successors have it
-  next : (p : ℕ → Bool) (c d : Machine S) → Cycle steps c false d → T (all p (successors (current_row c.processor.state).sequencing (current_row c.processor.state).amic)) → T (p d.processor.state.row)
-  next p c d h all = subst (λ s. T (p s.row)) (sym (state_of h)) (follows below.listed p (current_row c.processor.state).sequencing (current_row c.processor.state).amic c.processor.state.regs _ _ c.processor.lines _ all)
+  next : (p : ℕ → Bool) (c d : Machine S) → Cycle steps c false d
+      → T (all p (successors (current_row c.processor.state).sequencing (current_row c.processor.state).amic))
+      → T (p d.processor.state.row)
+  next p c d h all =
+      subst (λ s. T (p s.row)) (sym (state_of h))
+      (follows below.listed p (current_row c.processor.state).sequencing (current_row c.processor.state).amic
+      c.processor.state.regs _ _ c.processor.lines _ all)
 
   is_row : (since : ℕ) (c d : Machine S) → Cycle steps c false d → Soon since c → d.processor.state.row < 1024
-  is_row since c d h near = ltb-true _ _ (true_test _ (next (λ k. ltb k 1024) c d h (left _ _ (below.rows c.processor.state.row near.row))))
+  is_row since c d h near =
+      ltb-true _ _ (true_test _ (next (λ k. ltb k 1024) c d h (left _ _ (below.rows c.processor.state.row near.row))))
 
-  stays : (since : ℕ) (c d : Machine S) (f : Bool) → Cycle steps c f d → Soon since c → (means d.pile).longest ≡ (means start).longest
+  stays : (since : ℕ) (c d : Machine S) (f : Bool) → Cycle steps c f d → Soon since c
+      → (means d.pile).longest ≡ (means start).longest
   stays since c d f h near = (fixed below.memory keeps c.pile d.pile (next_request c) h.answer h.asks).1 ∙ near.longest
 
   -- a frozen cycle takes one from the waits of the request under way
@@ -121,17 +144,26 @@ module _ {S : Type 0} {means : S → Meaning} {steps : S → Request → Answer 
         touch = near.touch;
         path = subst (λ s. T (ending near.rows near.touch s.row)) (sym same) near.path;
         near =
-            subst (λ s. since + 1 + near.rows + ((near.touch - touches s) * (means start).longest + waiting (means d.pile) (asked (current_row s) s)) ≤ 7 + 2 * (means start).longest) (sym same)
+            subst
+            (λ s.
+            since + 1 + near.rows
+            + ((near.touch - touches s) * (means start).longest + waiting (means d.pile) (asked (current_row s) s))
+            ≤ 7 + 2 * (means start).longest) (sym same)
             (omega (arith, near.near));
       }
 
   -- an unfrozen one goes on to the next row, or over a boundary
-  soon_on : (since : ℕ) (c d : Machine S) → Cycle steps c false d → ends (current_row c.processor.state).sequencing ≡ false → Soon since c → Soon (since + 1) d
+  soon_on : (since : ℕ) (c d : Machine S) → Cycle steps c false d
+      → ends (current_row c.processor.state).sequencing ≡ false → Soon since c → Soon (since + 1) d
   soon_on since c d h e near = go (rest near.rows near.touch c.processor.state near.path e)
     where
-      go : (n : ℕ) × (near.rows ≡ n + 1) × T (all (ending n (near.touch - touches c.processor.state)) (successors (current_row c.processor.state).sequencing (current_row c.processor.state).amic)) → Soon (since + 1) d
+      go : (n : ℕ) × (near.rows ≡ n + 1)
+          × T (all (ending n (near.touch - touches c.processor.state))
+          (successors (current_row c.processor.state).sequencing (current_row c.processor.state).amic))
+          → Soon (since + 1) d
       go r =
-          comes (since + 1) d (stays since c d false h near) (is_row since c d h near) r.0 (near.touch - touches c.processor.state)
+          comes (since + 1) d (stays since c d false h near) (is_row since c d h near) r.0
+          (near.touch - touches c.processor.state)
           (next (ending r.0 (near.touch - touches c.processor.state)) c d h r.2)
           (omega (arith, near.near, r.1))
 
@@ -139,16 +171,30 @@ module _ {S : Type 0} {means : S → Meaning} {steps : S → Request → Answer 
   soon_over since c d h near = anew d (stays since c d false h near) (is_row since c d h near)
 
   -- each cycle, with its history
-  pub soon_cycle : (c d : Machine S) (f : Bool) → Cycle steps c f d → Soon c.observed.history.since c → Soon d.observed.history.since d
-  soon_cycle c d true k near = subst (λ h. Soon h.since d) (sym (history_of k)) (soon_frozen c.observed.history.since c d k near)
-  soon_cycle c d false k near = subst (λ h. Soon h.since d) (sym (history_of k)) (by (ends (current_row c.processor.state).sequencing) refl)
+  pub soon_cycle : (c d : Machine S) (f : Bool) → Cycle steps c f d → Soon c.observed.history.since c
+      → Soon d.observed.history.since d
+  soon_cycle c d true k near =
+      subst (λ h. Soon h.since d) (sym (history_of k)) (soon_frozen c.observed.history.since c d k near)
+  soon_cycle c d false k near =
+      subst (λ h. Soon h.since d) (sym (history_of k)) (by (ends (current_row c.processor.state).sequencing) refl)
     where
-      by : (e : Bool) → ends (current_row c.processor.state).sequencing ≡ e → Soon (cond {A = History} e (record { lines = c.processor.lines ∷ c.observed.history.lines; since = 0 }) (record { lines = c.observed.history.lines; since = c.observed.history.since + 1 })).since d
+      by : (e : Bool) → ends (current_row c.processor.state).sequencing ≡ e
+          → Soon
+          (cond {A = History} e (record { lines = c.processor.lines ∷ c.observed.history.lines; since = 0 })
+          (record { lines = c.observed.history.lines; since = c.observed.history.since + 1 })).since d
       by true e = soon_over c.observed.history.since c d k near
       by false e = soon_on c.observed.history.since c d k e near
 
   pub soon_lines : (since : ℕ) (c : Machine S) (l : ℕ) → Soon since c → Soon since (with_lines l c)
-  soon_lines since c l near = record { longest = near.longest; row = near.row; rows = near.rows; touch = near.touch; path = near.path; near = near.near }
+  soon_lines since c l near =
+      record {
+        longest = near.longest;
+        row = near.row;
+        rows = near.rows;
+        touch = near.touch;
+        path = near.path;
+        near = near.near;
+      }
 
   pub at_least_a_row : (since : ℕ) (c : Machine S) → Soon since c → since < latest_boundary (means start)
   unfolding ending

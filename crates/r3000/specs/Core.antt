@@ -30,4 +30,6 @@ machine_of h c = machine_of_parts h c.processor c.pile
 -- the 42 registers by their numbers: 0 to 31, then PC, HI, LO, SR, CR, EPC, BAR, AD, IR, DT; CR is read with the lines
 abbrev pub registers_in_order : State → List ℕ
 registers_in_order s =
-    s.regs.general ++ (s.regs.pc ∷ s.regs.hi ∷ s.regs.lo ∷ s.regs.sr ∷ causes s.lines s.regs.cr ∷ s.regs.epc ∷ s.regs.bar ∷ s.regs.ad ∷ s.regs.ir ∷ s.dt ∷ [])
+    s.regs.general
+    ++ (s.regs.pc ∷ s.regs.hi ∷ s.regs.lo ∷ s.regs.sr ∷ causes s.lines s.regs.cr ∷ s.regs.epc ∷ s.regs.bar
+    ∷ s.regs.ad ∷ s.regs.ir ∷ s.dt ∷ [])

@@ -25,7 +25,12 @@ abbrev pub core_after_cycle : {S T : Type 0} → Bool → Option Answer → T �
 core_after_cycle frozen a pile c =
     let s : State = c.processor.state in
     record {
-      processor = record c.processor { state = cond frozen s (advanced (current_row s) c.processor.lines (worked (current_row s) s) a s) };
+      processor =
+          record
+          c.processor {
+            state = cond frozen s
+                (advanced (current_row s) c.processor.lines (worked (current_row s) s) a s);
+          };
       pile = pile;
       observed = observed_after c.processor frozen c.observed;
     }

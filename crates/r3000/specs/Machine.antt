@@ -6,7 +6,8 @@ use Rattle.r3000.specs.declared.report.Report.{Report}
 use Rattle.rows.specs.Rows.{row_at}
 use Rattle.rows.specs.declared.row.Row.{Row}
 
--- what a core has behind it: the lines that stood at each is_boundary, the newest first, and the granted cycles since the last
+-- what a core has behind it: the lines that stood at each is_boundary, the newest first, and the granted cycles since
+-- the last
 pub record History : Type 0 where
   pub lines : List ℕ
   pub since : ℕ

@@ -35,8 +35,8 @@ pub record Agrees (b : Book) (s : State) (m : Meaning) : Type 0 where
   pub ledger : s.ledger ≡ b.ledger
   pub bytes : (address : ℕ) → m.byte address ≡ b.bytes address
 
--- the granted cycle with which the next boundary comes at the latest_boundary, counted from the one before or from power-up:
--- 7 + 2 W
+-- the granted cycle with which the next boundary comes at the latest_boundary, counted from the one before or from
+-- power-up: 7 + 2 W
 abbrev pub latest_boundary : Meaning → ℕ
 latest_boundary m = most_rows + most_accesses * m.longest
 
@@ -70,12 +70,13 @@ module _ {S : Type 0} (means : S → Meaning) (steps : S → Request → Answer 
     pub reached : IsReached steps start c
     pub promise : Promise means start c
 
-  -- from c to d the promise is upheld: on whatever pile c can be reached, d can be reached on that pile, and the promise
-  -- holds of d
+  -- from c to d the promise is upheld: on whatever pile c can be reached, d can be reached on that pile, and the
+  -- promise holds of d
   abbrev pub Upholds : Machine S → Machine S → Type 0
   Upholds c d = (start : S) → IsReached steps start c → IsPromised start d
 
-  -- what a call does: whatever the core has behind it, R holds of the core before and the core after, which has that behind
-  -- it too, and the promise is upheld
+  -- what a call does: whatever the core has behind it, R holds of the core before and the core after, which has that
+  -- behind it too, and the promise is upheld
   abbrev pub Happens : (Machine S → Machine S → Type 0) → Core S → Core S → Type 0
-  Happens R c d = (h : History) → (k : History) × R (machine_of h c) (machine_of k d) × Upholds (machine_of h c) (machine_of k d)
+  Happens R c d =
+      (h : History) → (k : History) × R (machine_of h c) (machine_of k d) × Upholds (machine_of h c) (machine_of k d)

@@ -66,7 +66,8 @@ impl<B: Bus> Core<B> {
 
     /// So many cycles, from 1 to 65,535, or none where their count would pass its limit.
     pub fn run(&mut self, count: u32) -> Result<Report, Denial>
-        ensures { Happens B.Bus.means B.Bus.steps (λ c d. Runs B.Bus.steps (Upholds B.Bus.means B.Bus.steps c) count c result d) self.old self.new }
+        ensures { Happens B.Bus.means B.Bus.steps
+            (λ c d. Runs B.Bus.steps (Upholds B.Bus.means B.Bus.steps c) count c result d) self.old self.new }
     {
         promise::<B>();
         let mut processor = self.processor;

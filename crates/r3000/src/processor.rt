@@ -41,7 +41,9 @@ impl Processor {
     /// One cycle on a pile; tells whether it was frozen.
     pub(crate) fn cycle<B: Bus>(&mut self, pile: &mut B) -> bool
         requires { self.old.counts.report.cycles < max_cycles }
-        ensures { (h : History) → (k : History) × Cycle B.Bus.steps (machine_of_parts h self.old pile.old) result (machine_of_parts k self.new pile.new) }
+        ensures { (h : History)
+            → (k : History)
+            × Cycle B.Bus.steps (machine_of_parts h self.old pile.old) result (machine_of_parts k self.new pile.new) }
     {
         let row = row(self.chip.row);
         let work = self.chip.work(row);

@@ -6,7 +6,8 @@ use book::law::longest_step;
 use bus::memory::Bus;
 use microprogram::bounds::longest_path;
 
-/// Everything that is reached on any pile keeps the promise. This is a proof and no code: who calls it has its contract.
+/// Everything that is reached on any pile keeps the promise. This is a proof and no code: who calls it has its
+/// contract.
 pub fn promise<B: Bus>()
     ensures { (start : B) → AllKeepPromise B.Bus.means B.Bus.steps start }
 {

@@ -26,4 +26,5 @@ front n m more f t job = by (ltb n (length job)) refl
 
 pub front_tells : (n : ℕ) → max_job < n → (job : List ℕ) → replies_to (take n job) ≡ replies_to job
 front_tells n more job =
-    front max_job n more (λ bytes. replies_to_lines meaning_after (loading zeroed_pile) 1 (text_lines_of bytes)) (denial_reply 0 fault.TooLong ∷ []) job
+    front max_job n more (λ bytes. replies_to_lines meaning_after (loading zeroed_pile) 1 (text_lines_of bytes))
+    (denial_reply 0 fault.TooLong ∷ []) job

@@ -70,7 +70,8 @@ StopsReading-memory P o p (Ok x) h k = absurd h
 StopsReading-memory P o p (Err f) h k = rw h k
 
 -- a job was read, and its answer was written as far as it was
-pub Running-written : (r r' w w' : Known) (job bs : List ℕ) (x : Result (Unit {0}) Error) (y : Result (Unit {0}) Failure)
+pub Running-written : (r r' w w' : Known) (job bs : List ℕ) (x : Result (Unit {0}) Error)
+    (y : Result (Unit {0}) Failure)
     → TakesJob r r' job → Writing w w' bs x → bs ≡ answer_text job
     → MatchResult x (λ u. y ≡ Ok u) (λ e. IsErrAnd y (λ f. f ≡ Write e)) → Running r r' w w' y
 Running-written r r' w w' job bs (Ok u) y h a e k = rw k (job, h, rw (← e) a)

@@ -6,10 +6,10 @@ ghost use Rattle.replies.specs.Replies.{text_of_replies, replies_to_come};
 ghost use Rattle.runjob.specs.Run.{Writing};
 
 use super::RETRIES;
-use text::writing::text;
 use replies::Replies;
 use std::io;
 use std::io::{ErrorKind, Write};
+use text::writing::text;
 
 /// One write, tried again where it was interrupted.
 fn write_some<W: Write>(writer: &mut W, bytes: &[u8]) -> io::Result<usize>

@@ -1,5 +1,6 @@
 -- The value of a field, digit_value after digit_value. Assumes nothing.
-use Rattle.std.proofs.Common.{◌≡◌, ℕ, zero, suc, ◌+◌, ◌*◌, ◌%◌, ◌^◌, ◌<◌, ◌≤◌, List, [], ◌∷◌, length, map, sym, ap, ◌∙◌, mul_assoc, arith}
+use Rattle.std.proofs.Common.{◌≡◌, ℕ, zero, suc, ◌+◌, ◌*◌, ◌%◌, ◌^◌, ◌<◌, ◌≤◌, List, [], ◌∷◌, length, map, sym, ap}
+use Rattle.std.proofs.Common.{◌∙◌, mul_assoc, arith}
 use native.Mathlib.Nat.{pow-succ'}
 use Rattle.std.proofs.Math.Nat.{add-mul, mul-le-mul_right, mul-suc, one-le-pow, suc-mul}
 use Rattle.std.proofs.lemmas.Bool.Decides.{nat_tests}
@@ -20,14 +21,17 @@ below w zero t h k = absurd (omega arith)
 below w (suc p) t h k = omega (arith, mul-suc w p)
 
 -- the fold over a field's digits is its value behind v
-pub fold_of_digits : (v : ℕ) (f : List ℕ) → v * 16 ^ length f + value_of f < 2 ^ 32 → fold appended v (map digit_value f) ≡ v * 16 ^ length f + value_of f
+pub fold_of_digits : (v : ℕ) (f : List ℕ) → v * 16 ^ length f + value_of f < 2 ^ 32
+    → fold appended v (map digit_value f) ≡ v * 16 ^ length f + value_of f
 fold_of_digits v [] h = omega arith
 fold_of_digits v (b ∷ bs) h =
-    let same : v * 16 ^ suc (length bs) + (digit_value b * 16 ^ length bs + value_of bs) ≡ (v * 16 + digit_value b) * 16 ^ length bs + value_of bs =
+    let same : v * 16 ^ suc (length bs) + (digit_value b * 16 ^ length bs + value_of bs)
+    ≡ (v * 16 + digit_value b) * 16 ^ length bs + value_of bs =
     moved v (digit_value b) (16 ^ length bs) (16 ^ suc (length bs)) (value_of bs) (pow-succ' 16 (length bs))
     in
     let fits : (v * 16 + digit_value b) * 16 ^ length bs + value_of bs < 2 ^ 32 = omega arith in
-    let small : v * 16 + digit_value b < 2 ^ 32 = below (v * 16 + digit_value b) (16 ^ length bs) (value_of bs) (one-le-pow (length bs) 16 (omega arith)) fits in
+    let small : v * 16 + digit_value b < 2 ^ 32 =
+    below (v * 16 + digit_value b) (16 ^ length bs) (value_of bs) (one-le-pow (length bs) 16 (omega arith)) fits in
     let one : appended v (digit_value b) ≡ v * 16 + digit_value b = omega arith in
     ap (λ x. fold appended x (map digit_value bs)) one ∙ fold_of_digits (v * 16 + digit_value b) bs fits ∙ sym same
 
@@ -37,5 +41,6 @@ digit-lt b = grind (arith, nat_tests)
 pub value_of-lt : (f : List ℕ) → value_of f < 16 ^ length f
 value_of-lt [] = omega arith
 value_of-lt (b ∷ bs) =
-    let top : suc (digit_value b) * 16 ^ length bs ≤ 16 * 16 ^ length bs = mul-le-mul_right (16 ^ length bs) (digit-lt b) in
+    let top : suc (digit_value b) * 16 ^ length bs ≤ 16 * 16 ^ length bs =
+    mul-le-mul_right (16 ^ length bs) (digit-lt b) in
     omega (arith, top, value_of-lt bs, suc-mul (digit_value b) (16 ^ length bs), pow-succ' 16 (length bs))

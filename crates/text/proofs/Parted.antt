@@ -1,5 +1,6 @@
 -- The fields of a reply, written one after the other. Assumes nothing.
-use Rattle.std.proofs.Common.{◌≡◌, ℕ, zero, suc, ◌+◌, ◌-◌, length, ◌*◌, ◌/◌, ◌%◌, ◌^◌, ◌<◌, List, [], ◌∷◌, ◌++◌, ap, ◌∙◌, arith, refl}
+use Rattle.std.proofs.Common.{◌≡◌, ℕ, zero, suc, ◌+◌, ◌-◌, length, ◌*◌, ◌/◌, ◌%◌, ◌^◌, ◌<◌, List, [], ◌∷◌, ◌++◌, ap}
+use Rattle.std.proofs.Common.{◌∙◌, arith, refl}
 use native.Mathlib.Nat.{pow-succ'}
 use Rattle.std.proofs.lemmas.Grind.{pow_more}
 use Rattle.std.proofs.lemmas.List.{append-nil}
@@ -12,7 +13,15 @@ sixteen zero = refl
 sixteen (suc n) =
     let four : 4 * suc n ≡ 4 * n + 1 + 1 + 1 + 1 = omega arith in
     ap (λ k. 2 ^ k) four
-    ∙ omega (arith, pow_more 2 (4 * n + 1 + 1 + 1), pow_more 2 (4 * n + 1 + 1), pow_more 2 (4 * n + 1), pow_more 2 (4 * n), pow-succ' 16 n, sixteen n)
+    ∙ omega (
+      arith,
+      pow_more 2 (4 * n + 1 + 1 + 1),
+      pow_more 2 (4 * n + 1 + 1),
+      pow_more 2 (4 * n + 1),
+      pow_more 2 (4 * n),
+      pow-succ' 16 n,
+      sixteen n,
+    )
 
 -- the first of some digits, found by a shift
 pub digits-first : (n v : ℕ) → 0 < n → digits n v ≡ byte_of (v / 2 ^ (4 * (n - 1)) % 16) ∷ digits (n - 1) v

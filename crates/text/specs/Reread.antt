@@ -1,5 +1,6 @@
 -- Reading a reply back. Assumes nothing.
-use Rattle.std.specs.Prelude.{◌≡◌, ℕ, ◌^◌, ◌<◌, cond, List, [], ◌∷◌, map, length, Some, None, Option, ◌==◌, slice_index}
+use Rattle.std.specs.Prelude.{◌≡◌, ℕ, ◌^◌, ◌<◌, cond, List, [], ◌∷◌, map, length, Some, None, Option, ◌==◌}
+use Rattle.std.specs.Prelude.{slice_index}
 use Rattle.text.specs.Form.{byte_width, code_of, code_width, count_width, denial_code, word_width}
 use Rattle.text.specs.Line.{fields_of, fields_fit, value_of}
 use Rattle.text.specs.Written.{Field, reply_fields, separated_fields}
@@ -21,16 +22,20 @@ counts_reply fs = Ran (record { cycles = field_value fs 0; frozen = field_value 
 
 -- the denial_of_fields that three fields tell
 abbrev pub denial_of_fields : List (List ℕ) → Reply
-denial_of_fields fs = Denied (record { number = field_value fs 0; line = field_value fs 1; address = field_value fs 2 })
+denial_of_fields fs =
+    Denied (record { number = field_value fs 0; line = field_value fs 1; address = field_value fs 2 })
 
 -- the reply that begins with a code, and has the fields behind it
 abbrev pub reply_with_code : ℕ → List (List ℕ) → Option Reply
 reply_with_code k fs =
-    cond (k == code_of kind.Load) (reply_where_fit [] fs Loaded) (cond (k == code_of kind.Start) (reply_where_fit [] fs Started)
+    cond (k == code_of kind.Load) (reply_where_fit [] fs Loaded)
+    (cond (k == code_of kind.Start) (reply_where_fit [] fs Started)
     (cond (k == code_of kind.Lines) (reply_where_fit [] fs Set)
     (cond (k == code_of kind.Run) (reply_where_fit (count_width ∷ count_width ∷ count_width ∷ []) fs (counts_reply fs))
-    (cond (k == code_of kind.Show) (reply_where_fit (byte_width ∷ word_width ∷ []) fs (Shown (field_value fs 0) (field_value fs 1)))
-    (cond (k == denial_code) (reply_where_fit (byte_width ∷ word_width ∷ word_width ∷ []) fs (denial_of_fields fs)) None)))))
+    (cond (k == code_of kind.Show)
+    (reply_where_fit (byte_width ∷ word_width ∷ []) fs (Shown (field_value fs 0) (field_value fs 1)))
+    (cond (k == denial_code) (reply_where_fit (byte_width ∷ word_width ∷ word_width ∷ []) fs (denial_of_fields fs))
+    None)))))
 
 -- the first field is the code; every line has one
 abbrev pub reply_of_fields : List (List ℕ) → Option Reply

@@ -5,7 +5,8 @@ ghost use Rattle.std.specs.List.{All};
 ghost use Rattle.arrayvec.specs.ArrayVec.{array_vec_len};
 ghost use Rattle.text.specs.Form.{line_end, longest_reply};
 ghost use Rattle.text.specs.Reread.{RoundTrip};
-ghost use Rattle.text.specs.Written.{code_field, digits, fields_of_counts, fields_of_denial, separated_fields, reply_text};
+ghost use Rattle.text.specs.Written.{code_field, digits, fields_of_counts, fields_of_denial, separated_fields};
+ghost use Rattle.text.specs.Written.{reply_text};
 
 use super::digit;
 use super::form::{BYTE_WIDTH, CODE_WIDTH, COUNT_WIDTH, DENIED, END, SPACE, WORD_WIDTH};

@@ -40,7 +40,8 @@ left_self : (n c : ℕ) (x : Access) → c ≤ n → count_left n (Counting x c)
 left_self n c x h = rw (same_self x) (omega arith)
 
 -- while the count is above 0
-waits : (n : ℕ) (state : State) (m : Meaning) (q : Request) → 0 < count_left (own_waits n m.longest) state (access_of q)
+waits : (n : ℕ) (state : State) (m : Meaning) (q : Request)
+    → 0 < count_left (own_waits n m.longest) state (access_of q)
     → Answers (delay n state m) q Wait
     (delay n (Counting (access_of q) (count_left (own_waits n m.longest) state (access_of q) - 1)) m)
 waits n state m q h =

@@ -4,7 +4,8 @@ use Rattle.std.specs.Prelude.{Bool, true, false, cond}
 use Rattle.std.proofs.Common.{inl, inr, sym, ◌∙◌, add-zero, arith}
 use Rattle.std.proofs.lemmas.Bool.{cases_eq}
 use Rattle.std.proofs.lemmas.Bool.Decides.{nat_tests}
-use Rattle.bus.specs.Meaning.{Answers, Meaning, byte_after, answer, done_word, is_refused, is_stalled, stored_byte, word_at, written_byte}
+use Rattle.bus.specs.Meaning.{Answers, Meaning, byte_after, answer, done_word, is_refused, is_stalled, stored_byte}
+use Rattle.bus.specs.Meaning.{word_at, written_byte}
 use Rattle.bus.specs.Request.{access_of, first_address, byte_count, word_of}
 use Rattle.bus.specs.declared.request.Action.{Action}
 use Rattle.bus.specs.declared.request.Action.TheVariants as action
@@ -59,7 +60,8 @@ pub record Through (m p : Meaning) (address : ℕ) (y : Action) (to : ℕ) : Typ
   pub bytes : (i : ℕ) → i < 4 → m.byte (word_of address + i) ≡ p.byte (word_of to + i)
 
 module _ {m p : Meaning} {address to : ℕ} where
-  same_refused : (y : Action) → Through m p address y to → is_refused m (request address y) ≡ is_refused p (request to y)
+  same_refused : (y : Action) → Through m p address y to
+      → is_refused m (request address y) ≡ is_refused p (request to y)
   same_refused action.Read h = h.unreadable
   same_refused (action.Write w d) h = h.unwritable
 
@@ -91,7 +93,8 @@ module _ {m p : Meaning} {address to : ℕ} where
       let fits' = lane_fits w to in
       let level = same_lane w address to h.low in
       let from : leb (first_address w address) x ≡ leb (first_address w to) x' = grind (arith, nat_tests) in
-      let until : ltb x (first_address w address + byte_count w) ≡ ltb x' (first_address w to + byte_count w) = grind (arith, nat_tests) in
+      let until : ltb x (first_address w address + byte_count w) ≡ ltb x' (first_address w to + byte_count w) =
+      grind (arith, nat_tests) in
       let place : x - first_address w address ≡ x' - first_address w to = omega arith in
       rw (from, until, place, same_byte (action.Write w d) h x x' here there)
 
@@ -132,7 +135,8 @@ module _ {m m' p p' : Meaning} {address : ℕ} {y : Action} {to : ℕ} {a : Answ
   bytes x (inr o) = o.stays ∙ sym (elsewhere m address y x o.apart)
   bytes x (inl s) = go (cases_eq (word_of x) (word_of address))
     where
-      go : (word_of x ≡ word_of address) ⊎ (word_of x ≢ word_of address) → m'.byte x ≡ byte_after m (request address y) x
+      go : (word_of x ≡ word_of address) ⊎ (word_of x ≢ word_of address)
+          → m'.byte x ≡ byte_after m (request address y) x
       go (inl here) = s.1.after ∙ below.bytes s.0 ∙ sym (same_after y h.through x s.0 here (s.1.there here))
       go (inr off) =
           s.1.after

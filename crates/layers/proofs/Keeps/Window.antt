@@ -22,7 +22,9 @@ or_zero P false n h z = z
 window_sound : (base limit : ℕ) (m : Meaning) → IsSound m → IsSound (window base limit m)
 window_sound base limit m h =
     record {
-      bytes = λ x. or_zero (λ n. n < 256) (nat_lt x (limit_address limit)) _ (h.bytes (address_below base x)) (omega arith);
+      bytes =
+          λ x. or_zero (λ n. n < 256) (nat_lt x (limit_address limit)) _ (h.bytes (address_below base x))
+          (omega arith);
       waits = λ x. or_zero (λ n. n ≤ m.longest) (nat_lt x.address (limit_address limit)) _ (h.waits _) (omega arith);
       longest = h.longest;
     }
@@ -91,7 +93,8 @@ module _ (base limit address : ℕ) where
           )
       seen x (inr f) = inr (record { stays = rw f; apart = λ e. both_ways _ f (below l x e) })
 
-  above : limit_address limit ≤ address → (x : ℕ) → word_of x ≡ word_of address → nat_lt x (limit_address limit) ≡ false
+  above : limit_address limit ≤ address → (x : ℕ) → word_of x ≡ word_of address
+      → nat_lt x (limit_address limit) ≡ false
   above l x e = le-ltb x (limit_address limit) (omega arith)
 
   refuses : (m : Meaning) (y : Action) → limit_address limit ≤ address

@@ -19,7 +19,8 @@ byte false n = omega arith
 ram_sound : (base : ℕ) (bytes : List ℕ) → IsSound (ram base bytes)
 ram_sound base bytes = record { bytes = λ address. byte _ _; waits = λ x. omega arith; longest = omega arith }
 
-ram_tells : {base base' : ℕ} {bytes bytes' : List ℕ} {q : Request} {a : Answer} → RegionSteps base bytes q a base' bytes'
+ram_tells : {base base' : ℕ} {bytes bytes' : List ℕ} {q : Request} {a : Answer}
+    → RegionSteps base bytes q a base' bytes'
     → Answers (ram base bytes) q a (ram base' bytes')
 ram_tells h =
     record {

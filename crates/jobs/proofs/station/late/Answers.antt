@@ -69,9 +69,9 @@ returns-in_err-run-in-Run g c h =
     let before = machine_of h c.args.core.now in
     let after = machine_of done.0 c.run.new.self in
     let ran : Runs g.B.Bus.steps (Upholds g.B.Bus.means g.B.Bus.steps before) c.in-Run.count before
-            (Err c.in_err-run-in-Run.field-0.0) after =
+    (Err c.in_err-run-in-Run.field-0.0) after =
     subst (λ n. Runs g.B.Bus.steps (Upholds g.B.Bus.means g.B.Bus.steps before) n before
-        (Err c.in_err-run-in-Run.field-0.0) after) c.from.ensures done.1
+    (Err c.in_err-run-in-Run.field-0.0) after) c.from.ensures done.1
     in (
       done.0,
       answered g before after _ _ _ _ c.in-Run.is
@@ -86,9 +86,9 @@ returns-in_ok-run-in-Run g c h =
     let before = machine_of h c.args.core.now in
     let after = machine_of done.0 c.run.new.self in
     let ran : Runs g.B.Bus.steps (Upholds g.B.Bus.means g.B.Bus.steps before) c.in-Run.count before
-            (Ok c.in_ok-run-in-Run.field-0) after =
+    (Ok c.in_ok-run-in-Run.field-0) after =
     subst (λ n. Runs g.B.Bus.steps (Upholds g.B.Bus.means g.B.Bus.steps before) n before
-        (Ok c.in_ok-run-in-Run.field-0) after) c.from.ensures done.1
+    (Ok c.in_ok-run-in-Run.field-0) after) c.from.ensures done.1
     in (
       done.0,
       answered g before after _ _ _ _ c.in-Run.is (ap Ok c.ran.ensures)

@@ -13,6 +13,7 @@ invariant-loop-reply g l = record {
   start : g.row.B.Denot;
   history : History;
   reached : StageIsReached g.B.Bus.means g.B.Bus.steps (standing_of start history l.reply-iterator).stage;
-  comes : (rs : List Reply) → AreToCome g.B.Bus.means g.B.Bus.steps (standing_of start history l.reply-iterator) rs → AnswersJob g.B.Bus.means g.B.Bus.steps max_job l.fn.pile l.bytes (replies ++ rs);
+  comes : (rs : List Reply) → AreToCome g.B.Bus.means g.B.Bus.steps (standing_of start history l.reply-iterator) rs
+      → AnswersJob g.B.Bus.means g.B.Bus.steps max_job l.fn.pile l.bytes (replies ++ rs);
   last : l.last ≡ last_reply_of replies;
 }

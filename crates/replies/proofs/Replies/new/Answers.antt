@@ -8,4 +8,5 @@ use Rattle.replies.proofs.Replies.new.Goals as goal
 pub returns : goal.returns
 returns c =
     c.new.ensures.replies meaning_after
-    ∙ ap (λ m. replies_to_job meaning_after max_job m c.args.job.now) (c.pile.ensures ∙ ap₂ job_pile c.zeroed.ensures.low c.zeroed.ensures.high)
+    ∙ ap (λ m. replies_to_job meaning_after max_job m c.args.job.now)
+    (c.pile.ensures ∙ ap₂ job_pile c.zeroed.ensures.low c.zeroed.ensures.high)

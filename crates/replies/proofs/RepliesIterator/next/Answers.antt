@@ -7,4 +7,5 @@ pub returns-clause-steps : goal.returns-clause-steps
 returns-clause-steps c = c.next.ensures.steps.exact meaning_after c.goes_on.ensures
 
 pub returns-clause-goes : goal.returns-clause-goes
-returns-clause-goes c = progress replies_to_come _ _ c.next.result (c.next.ensures.steps.exact meaning_after c.goes_on.ensures)
+returns-clause-goes c =
+    progress replies_to_come _ _ c.next.result (c.next.ensures.steps.exact meaning_after c.goes_on.ensures)

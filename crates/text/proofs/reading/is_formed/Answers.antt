@@ -7,5 +7,6 @@ use Rattle.text.proofs.reading.is_formed.Goals as goal
 pub returns : goal.returns
 returns c =
     all_from_yields_List is_in_form _ _ _ c.all.ensures.ran
-    (YieldsList-from_slice_split _ _ c.args.line.now c.split.ensures.rest c.split.ensures.done c.split.ensures.closure (λ x r q k. search (rules, tests)))
+    (YieldsList-from_slice_split _ _ c.args.line.now c.split.ensures.rest c.split.ensures.done c.split.ensures.closure
+    (λ x r q k. search (rules, tests)))
     (λ x b q k. search (rules, tests))

@@ -13,4 +13,5 @@ filled (b ∷ bs) e = sym (ap (λ t. t && list_all is_digit (b ∷ bs)) (lt-ltb 
 
 pub returns-then-not-is_empty : goal.returns-then-not-is_empty
 returns-then-not-is_empty c =
-    all_from_yields_List is_digit _ _ _ c.all.ensures.ran (YieldsList-from_slice c.args.field.now cc) (λ x b q k. search (rules, tests)) ∙ filled c.args.field.now (cc)
+    all_from_yields_List is_digit _ _ _ c.all.ensures.ran (YieldsList-from_slice c.args.field.now cc)
+    (λ x b q k. search (rules, tests)) ∙ filled c.args.field.now (cc)

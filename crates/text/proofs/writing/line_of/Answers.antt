@@ -6,7 +6,8 @@ use Rattle.text.proofs.writing.line_of.Goals as goal
 
 pub loop-field-init : goal.loop-field-init
 loop-field-init c =
-    ap (λ xs. xs ++ behind c.args.others.now) (c.push_field.ensures ∙ ap (λ xs. xs ++ digits (code_field c.args.code).0 c.args.code) c.new-text.ensures)
+    ap (λ xs. xs ++ behind c.args.others.now)
+    (c.push_field.ensures ∙ ap (λ xs. xs ++ digits (code_field c.args.code).0 c.args.code) c.new-text.ensures)
     ∙ parted-behind (code_field c.args.code) c.args.others.now
 
 pub push_field-requires-in-loop-field-clause-room : goal.push_field-requires-in-loop-field-clause-room

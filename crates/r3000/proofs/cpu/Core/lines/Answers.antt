@@ -12,6 +12,8 @@ returns-then-lines-gt-MAX_LINES-clause-core g c h =
 pub returns-clause-core : goal.returns-clause-core
 returns-clause-core g c h =
     let before = c.args.self.now.processor in
-    let after = machine_of_parts h (record { chip = before.chip; lines = c.args.lines; counts = before.counts }) c.args.self.now.pile in
+    let after =
+    machine_of_parts h (record { chip = before.chip; lines = c.args.lines; counts = before.counts })
+    c.args.self.now.pile in
     let set : after ≡ after_lines c.args.lines (machine_of h c.args.self.now) = search rules in
     (h, set, sets c.promise.ensures c.args.lines (machine_of h c.args.self.now) after set)

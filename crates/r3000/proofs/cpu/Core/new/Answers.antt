@@ -7,6 +7,10 @@ use Rattle.r3000.proofs.cpu.Core.new.Goals as goal
 
 pub returns-clause-promise : goal.returns-clause-promise
 returns-clause-promise g c =
-    let same : machine_of no_history (record { processor = c.new.result; pile = c.args.pile }) ≡ core_at_power_up c.args.pile = search rules in
+    let same : machine_of no_history (record { processor = c.new.result; pile = c.args.pile })
+    ≡ core_at_power_up c.args.pile = search rules in
     subst (λ m. IsPromised g.B.Bus.means g.B.Bus.steps c.args.pile m) (sym same)
-    (record { reached = IsReached.power_up; promise = c.promise.ensures c.args.pile (core_at_power_up c.args.pile) IsReached.power_up })
+    (record {
+      reached = IsReached.power_up;
+      promise = c.promise.ensures c.args.pile (core_at_power_up c.args.pile) IsReached.power_up;
+    })

@@ -18,10 +18,16 @@ one_more true last n = refl
 one_more false true n = refl
 one_more false false n = refl
 
-as_many : {S : Type 0} (steps : S → Request → Answer → S → Type 0) (says : Machine S → Type 0) (n : ℕ) (c d : Machine S) → Cycles steps says n c d → d.observed.report.cycles ≡ c.observed.report.cycles + n
+as_many : {S : Type 0} (steps : S → Request → Answer → S → Type 0) (says : Machine S → Type 0) (n : ℕ)
+    (c d : Machine S) → Cycles steps says n c d → d.observed.report.cycles ≡ c.observed.report.cycles + n
 as_many steps says zero c d h = omega (arith, ap (λ m. m.observed.report.cycles) h)
 as_many steps says (suc n) c d h =
-    omega (arith, as_many steps says n c h.0 h.2, ap (λ m. m.cycles) (report_of h.3), one_more h.1 (ends (current_row h.0.processor.state).sequencing) h.0.observed.report)
+    omega (
+      arith,
+      as_many steps says n c h.0 h.2,
+      ap (λ m. m.cycles) (report_of h.3),
+      one_more h.1 (ends (current_row h.0.processor.state).sequencing) h.0.observed.report,
+    )
 
 pub returns-in_err-check_run : goal.returns-in_err-check_run
 returns-in_err-check_run g c h =
@@ -34,7 +40,9 @@ loop-init g c h = (h, refl)
 
 pub cycle-requires : goal.cycle-requires
 cycle-requires g c =
-    let so_far = as_many g.B.Bus.steps Anything c.loop.counter (machine_of no_history c.args.self.now) _ (c.loop.invariant no_history).1 in
+    let so_far =
+    as_many g.B.Bus.steps Anything c.loop.counter (machine_of no_history c.args.self.now) _
+    (c.loop.invariant no_history).1 in
     grind arith
 
 pub loop-preserved : goal.loop-preserved
@@ -49,6 +57,7 @@ returns g c h =
     let all : c.loop.counter ≡ c.args.count = omega arith in
     let before = machine_of h c.args.self.now in
     let after = machine_of_parts so_far.0 c.loop.processor c.loop.self.pile in
-    let ran : Runs g.B.Bus.steps Anything c.args.count before (Ok c.loop.processor.counts.report) after = rw (← c.in_ok-check_run.ensures) (rw all at so_far.1, refl) in
+    let ran : Runs g.B.Bus.steps Anything c.args.count before (Ok c.loop.processor.counts.report) after =
+    rw (← c.in_ok-check_run.ensures) (rw all at so_far.1, refl) in
     let upheld = runs c.promise.ensures c.args.count before after (Ok c.loop.processor.counts.report) ran in
     (so_far.0, upheld.0, upheld.1)

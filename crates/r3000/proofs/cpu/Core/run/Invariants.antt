@@ -5,4 +5,8 @@ use Rattle.r3000.proofs.Upheld.{Anything}
 use Rattle.r3000.proofs.cpu.Core.run.Given as goal
 
 abbrev pub invariant-loop : goal.invariant-loop
-invariant-loop g l = (h : History) → (k : History) × Cycles g.B.Bus.steps Anything l.counter (machine_of h l.initial.self) (machine_of_parts k l.processor l.self.pile)
+invariant-loop g l =
+    (h : History)
+    → (k : History)
+    × Cycles g.B.Bus.steps Anything l.counter (machine_of h l.initial.self)
+    (machine_of_parts k l.processor l.self.pile)

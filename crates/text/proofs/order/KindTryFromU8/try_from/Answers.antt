@@ -22,10 +22,13 @@ found n = refl
 pub returns : goal.returns
 returns c =
     let all : YieldsList array_steps (λ k. k) c.into_iter.result kinds =
-    rw (← c.into_iter.ensures.into_iter_gives.0) (YieldsList-from_shown array_steps (λ k. k) array_into_iter_items (λ s t h. h.0) (λ s x t h. h) c.into_iter.result)
+    rw (← c.into_iter.ensures.into_iter_gives.0)
+    (YieldsList-from_shown array_steps (λ k. k) array_into_iter_items (λ s t h. h.0) (λ s x t h. h)
+    c.into_iter.result)
     in
     let first : c.find.result ≡ find (λ k. eqb c.args.code (code_of k)) kinds =
     sym (option_map_id _)
-    ∙ find_from_yields_List (λ k. eqb c.args.code (code_of k)) _ _ c.find.result c.find.ensures.ran all (λ x b q k. (ap (λ r. record { 0 = r }) k.called.met.1, search (rules, tests)))
+    ∙ find_from_yields_List (λ k. eqb c.args.code (code_of k)) _ _ c.find.result c.find.ensures.ran all
+    (λ x b q k. (ap (λ r. record { 0 = r }) k.called.met.1, search (rules, tests)))
     in
     c.ok_or.ensures.value ∙ ap (λ o. ok_or o Unknown) (first ∙ found c.args.code)
