@@ -1,7 +1,7 @@
 -- Where a memory is decided, so is every reply of a job on it. Assumes nothing.
 use Rattle.std.proofs.Common.{◌≡◌, ℕ, zero, suc, Bool, true, false, cond, List, Some, None, Ok, Err, Option, Result, refl, ap, ap₂, ◌∙◌}
 use Rattle.std.specs.Prelude.{nat_lt}
-use Rattle.book.specs.Instant.{asked}
+use Rattle.microprogram.specs.Cycle.{advanced, asked, ends, worked}
 use Rattle.bus.specs.Decided.{Decided}
 use Rattle.bus.specs.Meaning.{Keeps, Meaning}
 use Rattle.bus.specs.Settled.{Settles, Waited, outcome}
@@ -19,7 +19,6 @@ use Rattle.lines.specs.declared.fault.JobFault.{JobFault}
 use Rattle.lines.specs.declared.order.Order.{Order}
 use Rattle.lines.specs.declared.order.Order.TheVariants as order
 use Rattle.lines.specs.declared.reply.Reply.{Reply}
-use Rattle.microprogram.specs.Cycle.{advanced, ends, worked}
 use Rattle.r3000.specs.Calls.{Checked, Runs, check_run}
 use Rattle.r3000.specs.Counts.{counted}
 use Rattle.r3000.specs.Cycle.{Asks, Cycle, Cycles}

@@ -1,6 +1,6 @@
 -- A job on a memory whose meaning decides how it goes on: each reply, by a function. Assumes nothing.
 use Rattle.std.specs.Prelude.{ℕ, zero, suc, ◌+◌, cond, List, [], ◌∷◌, ◌++◌, length, Some, None, Ok, Err, Option, Result, nat_lt}
-use Rattle.book.specs.Instant.{asked}
+use Rattle.microprogram.specs.Cycle.{advanced, asked, ends, worked}
 use Rattle.bus.specs.Meaning.{Meaning, answer}
 use Rattle.bus.specs.Request.{access_of}
 use Rattle.bus.specs.Settled.{outcome}
@@ -16,7 +16,6 @@ use Rattle.lines.specs.declared.reply.Reply.TheVariants as reply
 use Rattle.jobs.specs.Job.{answered, denial, lines_of}
 use Rattle.jobs.specs.Limits.{max_job}
 use Rattle.jobs.specs.Station.{called, counted, load_end, loaded, store}
-use Rattle.microprogram.specs.Cycle.{advanced, ends, worked}
 use Rattle.r3000.specs.Calls.{check_run, lines_reply, lines_set, register_reply}
 use Rattle.r3000.specs.Counts as counts
 use Rattle.r3000.specs.Cycle.{freezes}

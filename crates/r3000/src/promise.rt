@@ -5,6 +5,7 @@ ghost use Rattle.r3000.specs.Promise.{Kept};
 use book::law::longest_step;
 use bus::memory::Bus;
 use microprogram::bounds::longest_path;
+use paths::law::steps_are_paths;
 
 /// Everything that is reached on any pile keeps the promise. This is a proof and no code: who calls it has its contract.
 pub fn promise<B: Bus>()
@@ -12,4 +13,5 @@ pub fn promise<B: Bus>()
 {
     let _ = longest_path();
     let _ = longest_step();
+    steps_are_paths();
 }
