@@ -1,15 +1,2 @@
-mod Arrive
-mod Branches
-mod Decode
-mod Entries
 mod Fits
-mod Jumps
-mod Loads
 mod Longest
-mod Steps
-mod Still
-mod Stores
-mod Straight
-mod System
-mod Upto
-mod Walk

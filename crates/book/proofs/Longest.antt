@@ -1,11 +1,11 @@
 -- No step takes more than seven cycles. Assumes nothing.
 use Rattle.std.proofs.Common.{◌≡◌, ℕ, ◌<◌, ◌≤◌, Bool, true, false, cond, ◌&&◌, T, eqb, leb, replicate, refl, arith}
 use Rattle.std.proofs.lemmas.Bool.{and_parts, leb-true}
+use Rattle.machine.specs.Ledger.{blank}
+use Rattle.machine.specs.Registers.{Regs}
 use Rattle.book.specs.Book.{Book, Event, risen}
 use Rattle.book.specs.Instruction.{Instruction, decoded}
 use Rattle.book.specs.Length.{LongestStep, length_of, long, moved}
-use Rattle.microprogram.specs.Ledger.{blank}
-use Rattle.microprogram.specs.Registers.{Regs}
 
 -- from one to seven
 record Few (n : ℕ) : Type 0 where

@@ -4,17 +4,18 @@ use Rattle.bus.specs.Meaning.{stored_byte, word_at}
 use Rattle.bus.specs.Request.{first_address, byte_count, word_of}
 use Rattle.bus.specs.declared.request.Width.{Width}
 use Rattle.bus.specs.declared.request.Width.TheVariants.{Word, Half, Byte}
+use Rattle.machine.specs.Address.{barred, misplaced, user}
+use Rattle.machine.specs.Fault.{code}
+use Rattle.machine.specs.Interrupt.{caused, causes, entered, interrupting, resetting, restored}
+use Rattle.machine.specs.Ledger.{blank, noted}
+use Rattle.machine.specs.Operation.{overflow, result_of, signed}
+use Rattle.machine.specs.Registers.{Regs, put, reg, with_ad, with_bar, with_cr, with_epc, with_hi, with_ir, with_lo, with_pc, with_sr}
+use Rattle.machine.specs.Word.{distance, extended, immediate, rd, rs, rt, shift, target}
+use Rattle.machine.specs.declared.fault.Fault.{Fault}
+use Rattle.machine.specs.declared.fault.Fault.TheVariants as f
+use Rattle.machine.specs.declared.ledger.Entry.{Entry}
+use Rattle.machine.specs.declared.operation.Operation.TheVariants.{Sum}
 use Rattle.book.specs.Instruction.{Instruction, decoded, under}
-use Rattle.microprogram.specs.Cycle.{barred, interrupting, misplaced, resetting}
-use Rattle.microprogram.specs.Fault.{code}
-use Rattle.microprogram.specs.Ledger.{blank, noted}
-use Rattle.rows.specs.Operation.{overflow, result_of, signed}
-use Rattle.microprogram.specs.Registers.{Regs, put, reg, with_ad, with_bar, with_cr, with_epc, with_hi, with_ir, with_lo, with_pc, with_sr}
-use Rattle.microprogram.specs.Word.{caused, causes, distance, entered, extended, immediate, rd, restored, rs, rt, shift, target, user}
-use Rattle.microprogram.specs.declared.fault.Fault.{Fault}
-use Rattle.microprogram.specs.declared.fault.Fault.TheVariants as f
-use Rattle.microprogram.specs.declared.ledger.Entry.{Entry}
-use Rattle.rows.specs.declared.operation.Operation.TheVariants.{Sum}
 
 -- what the next step will be
 pub data Event : Type 0 where

@@ -1,9 +1,9 @@
 -- Worked cases of the book. Assumes nothing.
 use Rattle.std.specs.Prelude.{◌≡◌, ℕ, false, ◌∷◌, replicate, ◌==◌}
+use Rattle.machine.specs.Interrupt.{cause}
+use Rattle.machine.specs.Ledger.{blank}
 use Rattle.book.specs.Book.{Book, Event, Refusals, step}
 use Rattle.book.specs.declared.law.WorkedCases.{WorkedCases}
-use Rattle.microprogram.specs.Ledger.{blank}
-use Rattle.microprogram.specs.Word.{cause}
 
 -- a machine about to run an instruction, with PC, two general registers and SR; all else is zero
 abbrev running : ℕ → ℕ → ℕ → ℕ → ℕ → Book

@@ -1,8 +1,8 @@
 -- The instructions and how a word is decoded. Assumes nothing.
 use Rattle.std.specs.Prelude.{ℕ, Bool, true, false, List, [], ◌∷◌, ◌==◌}
-use Rattle.microprogram.specs.Word.{bit, function, opcode, system}
-use Rattle.rows.specs.declared.operation.Operation.{Operation}
-use Rattle.rows.specs.declared.operation.Operation.TheVariants.{
+use Rattle.machine.specs.Word.{bit, function, opcode, system}
+use Rattle.machine.specs.declared.operation.Operation.{Operation}
+use Rattle.machine.specs.declared.operation.Operation.TheVariants.{
   Sum,
   Dif,
   And,

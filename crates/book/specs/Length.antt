@@ -1,10 +1,10 @@
 -- How many cycles a step takes, as a table. Assumes nothing.
 use Rattle.std.specs.Prelude.{◌≡◌, ℕ, ◌<◌, ◌≤◌, cond, not, [], ◌∷◌, pos, ◌==◌, int_le, int_lt}
+use Rattle.machine.specs.Operation.{signed}
+use Rattle.machine.specs.Registers.{Regs, reg}
+use Rattle.machine.specs.Word.{rs, rt}
 use Rattle.book.specs.Book.{Book, Event, linked, risen}
 use Rattle.book.specs.Instruction.{Instruction, decoded, under}
-use Rattle.rows.specs.Operation.{signed}
-use Rattle.microprogram.specs.Registers.{Regs, reg}
-use Rattle.microprogram.specs.Word.{rs, rt}
 
 -- a move of a system register that does not exist takes one cycle more
 abbrev pub moved : ℕ → ℕ

@@ -1,6 +1,5 @@
 pub mod Book
 pub mod Cases
-pub mod Instant
+pub mod Fit
 pub mod Instruction
 pub mod Length
-pub mod Path

@@ -2,18 +2,19 @@
 
 ghost use Rattle.std.specs.Prelude.{◌≡◌};
 ghost use Rattle.book.specs.Cases.{Worked};
-ghost use Rattle.book.specs.Instant.{StillKeeps};
+ghost use Rattle.book.specs.Fit.{BeginsFit, StepsFit};
 ghost use Rattle.book.specs.Length.{LongestStep};
-ghost use Rattle.book.specs.Path.{Begins, StepsArePaths, StepsFit};
 
-/// The most cycles that a step of the book takes. Each step is a path of rows of exactly the book's length.
+use machine::law::words_stay_words;
+
+/// The most cycles that a step of the book takes. The book begins with words in its registers and bytes in its memory, and
+/// every step keeps that.
 pub fn longest_step() -> u8
-    ensures memory { StillKeeps }
-    ensures paths { StepsArePaths }
-    ensures begins { Begins }
+    ensures begins { BeginsFit }
     ensures words { StepsFit }
     ensures longest { LongestStep result }
 {
+    words_stay_words();
     7
 }
 

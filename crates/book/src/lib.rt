@@ -1,4 +1,4 @@
-//! The instruction book, and that each of its steps is a path of rows.
+//! The instruction book: the machine that knows instructions and no rows.
 
 #![tactic(auto)]
 

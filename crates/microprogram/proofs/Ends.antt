@@ -1,8 +1,8 @@
 -- The one test over all rows, computed. Assumes nothing.
 use Rattle.std.proofs.Common.{◌≡◌, ℕ, zero, suc, ◌<◌, Bool, true, false, ◌&&◌, T, ◌⊎◌, inl, inr, arith}
 use Rattle.std.proofs.lemmas.Bool.{cases_eq}
-use Rattle.microprogram.specs.Bounds.{RowsEnd, ending, sound, sound_below}
 use Rattle.rows.specs.Rows.{rows}
+use Rattle.microprogram.specs.Bounds.{RowsEnd, ending, sound, sound_below}
 
 left : (a b : Bool) → T (a && b) → T a
 left true b h = tt

@@ -1,10 +1,10 @@
 -- The row that follows is one of the listed successors. Assumes nothing.
 use Rattle.std.proofs.Common.{◌≡◌, ℕ, zero, suc, ◌+◌, ◌*◌, ◌/◌, ◌%◌, ◌<◌, Bool, true, false, refl, sym, suc-mul, Contains, arith}
-use Rattle.microprogram.specs.Bounds.{RowsListed, spread}
-use Rattle.microprogram.specs.Cycle.{interrupting, resetting}
-use Rattle.microprogram.specs.Word.{bit, function, opcode, system}
-use Rattle.rows.specs.Operation.{one_if}
+use Rattle.machine.specs.Interrupt.{interrupting, resetting}
+use Rattle.machine.specs.Operation.{one_if}
+use Rattle.machine.specs.Word.{bit, function, opcode, system}
 use Rattle.rows.specs.declared.row.Sequencing.TheVariants as s
+use Rattle.microprogram.specs.Bounds.{RowsListed, spread}
 
 -- a spread has each of its numbers
 among : (from by n k : ℕ) → k < n → (m : ℕ) → m ≡ from + k * by → Contains (spread from by n) m

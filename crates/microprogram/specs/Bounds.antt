@@ -1,12 +1,12 @@
 -- How the rows hang together: one test over all of them, and what it says. Assumes nothing.
 use Rattle.std.specs.Prelude.{ℕ, zero, suc, ◌+◌, ◌-◌, ◌*◌, ◌/◌, ◌<◌, Bool, true, false, ◌&&◌, T, List, [], ◌∷◌, nat_le, nat_lt, Contains}
-use Rattle.microprogram.specs.Cycle.{ends, following}
-use Rattle.microprogram.specs.Registers.{Regs}
+use Rattle.machine.specs.Registers.{Regs}
 use Rattle.rows.specs.Rows.{row_at}
 use Rattle.rows.specs.declared.row.Sequencing.{Sequencing}
 use Rattle.rows.specs.declared.row.Sequencing.TheVariants as s
 use Rattle.rows.specs.declared.row.Transfer.{Transfer}
 use Rattle.rows.specs.declared.row.Transfer.TheVariants as m
+use Rattle.microprogram.specs.Cycle.{ends, following}
 
 -- the numbers from, from + by, .. , so many of them
 abbrev pub spread : ℕ → ℕ → ℕ → List ℕ

@@ -5,15 +5,15 @@ use Rattle.bus.specs.declared.request.Answer.{Answer}
 use Rattle.bus.specs.declared.request.Answer.TheVariants.{BusError, Done}
 use Rattle.bus.specs.declared.request.Request.{Request}
 use Rattle.bus.specs.declared.request.Width.TheVariants.{Word, Half, Byte}
-use Rattle.microprogram.specs.Fault.{code_of}
-use Rattle.rows.specs.Operation.{one_if, operated}
-use Rattle.microprogram.specs.Ledger.{blank, noted}
-use Rattle.microprogram.specs.Registers.{Regs, held, put, reg, with_ad, with_bar, with_cr, with_epc, with_hi, with_ir, with_lo, with_pc, with_sr}
-use Rattle.microprogram.specs.Word.{bit, caused, causes, cause, distance, entered, extended, function, opcode, rd, restored, rs, rt, shift, system, target, user}
-use Rattle.microprogram.specs.declared.chip.Chip.{Chip}
-use Rattle.microprogram.specs.declared.fault.Fault.{Fault}
-use Rattle.microprogram.specs.declared.fault.Fault.TheVariants as f
-use Rattle.microprogram.specs.declared.ledger.Entry.{Entry}
+use Rattle.machine.specs.Address.{barred, misplaced, user}
+use Rattle.machine.specs.Interrupt.{cause, caused, causes, code_of, entered, interrupting, resetting, restored}
+use Rattle.machine.specs.Ledger.{blank, noted}
+use Rattle.machine.specs.Operation.{one_if, operated}
+use Rattle.machine.specs.Registers.{Regs, held, put, reg, with_ad, with_bar, with_cr, with_epc, with_hi, with_ir, with_lo, with_pc, with_sr}
+use Rattle.machine.specs.Word.{bit, distance, extended, function, opcode, rd, rs, rt, shift, system, target}
+use Rattle.machine.specs.declared.fault.Fault.{Fault}
+use Rattle.machine.specs.declared.fault.Fault.TheVariants as f
+use Rattle.machine.specs.declared.ledger.Entry.{Entry}
 use Rattle.rows.specs.declared.row.Destination.{Destination}
 use Rattle.rows.specs.declared.row.Destination.TheVariants as r
 use Rattle.rows.specs.declared.row.Detection.{Detection}
@@ -27,6 +27,7 @@ use Rattle.rows.specs.declared.row.Sequencing.{Sequencing}
 use Rattle.rows.specs.declared.row.Sequencing.TheVariants as s
 use Rattle.rows.specs.declared.row.Transfer.{Transfer}
 use Rattle.rows.specs.declared.row.Transfer.TheVariants as m
+use Rattle.microprogram.specs.declared.chip.Chip.{Chip}
 
 -- operand X; the lines are those of the last boundary
 abbrev pub operand_x : ℕ → ℕ → Regs → OperandX → ℕ
@@ -74,13 +75,6 @@ access g m.Lw res = Some (read_of g.ad)
 abbrev pub requested : Option Fault → Option Request → Option Request
 requested (Some c) q = None
 requested None q = q
-
--- an address that is no multiple of the size, or that user mode may not use
-abbrev pub barred : ℕ → ℕ → Bool
-barred sr res = user sr && bit 31 res
-
-abbrev pub misplaced : ℕ → ℕ → ℕ → Bool
-misplaced size sr res = not (res % size == 0) || barred sr res
 
 abbrev pub refused : Option Answer → Bool
 refused (Some BusError) = true
@@ -171,14 +165,6 @@ abbrev pub loaded : Transfer → Option Answer → ℕ → ℕ
 loaded m.Lw a old = brought a old
 loaded _ a old = old
 
--- an interrupt is let in: SR bit 0, and some SR bit 10 + n with line n up
-abbrev pub interrupting : ℕ → ℕ → Bool
-interrupting sr lines = bit 0 sr && not (bit_and (sr / 1024 % 64) (lines % 64) == 0)
-
--- the reset line is bit 6
-abbrev pub resetting : ℕ → Bool
-resetting lines = bit 6 lines
-
 -- the row that follows; the choice at a boundary reads SR before this cycle's write and counts a flag raised in it
 abbrev pub following : Sequencing → ℕ → Regs → ℕ → Bool → ℕ → Bool → ℕ
 following s.Next amic g res zero lines flag = amic
@@ -228,6 +214,10 @@ seen c =
 -- what the operation box gives in a row
 abbrev pub worked : Row → State → ℕ × Bool × Bool
 worked w c = operated w.operation (operand_x c.lines c.dt c.regs w.x) (operand_y c.dt c.regs w.y)
+
+-- the request that a state makes in a row
+abbrev pub asked : Row → State → Option Request
+asked w c = requested c.flag (access c.regs w.transfer (worked w c).0)
 
 -- the state after a row with that work, under the lines that stand now and the answer to its request
 abbrev pub advanced : Row → ℕ → ℕ × Bool × Bool → Option Answer → State → State

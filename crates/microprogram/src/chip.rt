@@ -1,7 +1,7 @@
 //! The processor without its memory.
 
-use super::ledger::Ledger;
-use super::registers::Registers;
+use machine::ledger::Ledger;
+use machine::registers::Registers;
 
 #[derive(Clone, Copy)]
 pub struct Chip {

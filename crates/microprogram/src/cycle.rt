@@ -1,18 +1,18 @@
 //! One cycle, as functions of values.
 
 ghost use Rattle.std.specs.Prelude.{◌≡◌, ◌<◌};
+ghost use Rattle.machine.specs.Registers.{held, with_register};
 ghost use Rattle.microprogram.specs.Cycle.{access, advanced, brought, powered, requested, saves, seen, worked, written};
-ghost use Rattle.microprogram.specs.Registers.{held, with_register};
 
 use super::chip::Chip;
-use super::fault::Fault;
 use super::faults::{Check, Evidence};
-use super::ledger::Ledger;
-use super::operands::Field;
-use super::registers::Registers;
 use super::sequencing;
 use bus::request::{Answer, Request, Width};
-use rows::operation::operate;
+use machine::interrupt::{cr_code, cr_on_entry, sr_on_entry, sr_on_return};
+use machine::ledger::Ledger;
+use machine::operation::operate;
+use machine::registers::Registers;
+use machine::word::Field;
 use rows::row::{Destination, OperandX, Row, Transfer};
 
 /// The rows epc1 and epc2 save PC: they write EPC from it.
@@ -42,32 +42,38 @@ fn put(general: &mut [u32; 32], n: usize, value: u32)
     }
 }
 
-impl Registers {
-    /// Writes the result to its destination.
-    fn write(&mut self, destination: Destination, res: u32)
-        ensures regs { held self.new ≡ written destination self.old.flag res (held self.old) }
-        ensures dt { self.new.dt ≡ self.old.dt }
-        ensures flag { self.new.flag ≡ self.old.flag }
-    {
-        match destination {
-            Destination::Nop => {}
-            Destination::Pc => self.pc = res,
-            Destination::Ad => self.ad = res,
-            Destination::Bar => self.bar = res,
-            Destination::Lo => self.lo = res,
-            Destination::Hi => self.hi = res,
-            Destination::Epc => self.epc = res,
-            Destination::Cr => self.cr = res,
-            Destination::Sr => self.sr = res,
-            Destination::Rt => put(&mut self.general, Field::Rt.register(self.ir), res),
-            Destination::Rd => put(&mut self.general, Field::Rd.register(self.ir), res),
-            Destination::R31 => put(&mut self.general, 31, res),
-            Destination::Erq => {
-                self.cr = self.cr / 64 * 64 + self.flag.map_or(0, Fault::code) * 4;
-                self.sr = self.sr / 64 * 64 + self.sr.wrapping_mul(4) % 64;
-            }
-            Destination::Rfe => self.sr = self.sr / 16 * 16 + self.sr / 4 % 16,
+/// Writes the result to its destination.
+fn write(registers: &mut Registers, destination: Destination, res: u32)
+    ensures regs { held registers.new ≡ written destination registers.old.flag res (held registers.old) }
+    ensures dt { registers.new.dt ≡ registers.old.dt }
+    ensures flag { registers.new.flag ≡ registers.old.flag }
+{
+    match destination {
+        Destination::Nop => {}
+        Destination::Pc => registers.pc = res,
+        Destination::Ad => registers.ad = res,
+        Destination::Bar => registers.bar = res,
+        Destination::Lo => registers.lo = res,
+        Destination::Hi => registers.hi = res,
+        Destination::Epc => registers.epc = res,
+        Destination::Cr => registers.cr = res,
+        Destination::Sr => registers.sr = res,
+        Destination::Rt => put(
+            &mut registers.general,
+            Field::Rt.register(registers.ir),
+            res,
+        ),
+        Destination::Rd => put(
+            &mut registers.general,
+            Field::Rd.register(registers.ir),
+            res,
+        ),
+        Destination::R31 => put(&mut registers.general, 31, res),
+        Destination::Erq => {
+            registers.cr = cr_on_entry(registers.flag, registers.cr);
+            registers.sr = sr_on_entry(registers.sr);
         }
+        Destination::Rfe => registers.sr = sr_on_return(registers.sr),
     }
 }
 
@@ -103,8 +109,8 @@ impl Chip {
     pub fn work(&self, row: Row) -> (u32, bool, bool)
         ensures { result ≡ worked row (seen self.now) }
     {
-        let x = self.registers.operand_x(row.x, self.lines);
-        let y = self.registers.operand_y(row.y);
+        let x = self.operand_x(row.x);
+        let y = self.operand_y(row.y);
         operate(row.operation, x, y)
     }
 
@@ -143,14 +149,12 @@ impl Chip {
             new: evidence.found_by(row.detection),
         };
         let flag = check.flag();
-        self.row = self
-            .registers
-            .following(&row, res, zero, lines, flag.is_some());
+        self.row = self.following(&row, res, zero, lines, flag.is_some());
         if saves(row.destination, row.x) && check.opens() {
-            self.ledger.note(self.registers.cr / 4, res);
+            self.ledger.note(cr_code(self.registers.cr), res);
         }
         if check.allows(row.destination) {
-            self.registers.write(row.destination, res);
+            write(&mut self.registers, row.destination, res);
         }
         match row.transfer {
             Transfer::If => self.registers.ir = brought(answer, self.registers.ir),

@@ -1,11 +1,11 @@
 //! Which fault a row finds, and what a fault stops.
 
 ghost use Rattle.std.specs.Prelude.{◌≡◌};
-ghost use Rattle.microprogram.specs.Cycle.{allowed, barred, clears, flagged, found, misplaced, opens, refused, stopping};
-ghost use Rattle.microprogram.specs.Word.{user};
+ghost use Rattle.microprogram.specs.Cycle.{allowed, clears, flagged, found, opens, refused, stopping};
 
-use super::fault::Fault;
 use bus::request::Answer;
+use machine::address::{is_barred, is_misplaced, is_user_mode};
+use machine::fault::Fault;
 use rows::row::{Destination, Detection};
 
 /// What a fault is found by: SR, the result, its overflow, and the answer to the row's request.
@@ -18,27 +18,6 @@ pub(crate) struct Evidence {
 }
 
 impl Evidence {
-    /// SR bit 1.
-    fn in_user_mode(self) -> bool
-        ensures { result ≡ user self.sr }
-    {
-        self.sr / 2 % 2 == 1
-    }
-
-    /// User mode may not use an address with bit 31.
-    fn is_barred(self) -> bool
-        ensures { result ≡ barred self.sr self.res }
-    {
-        self.in_user_mode() && self.res / 0x8000_0000 % 2 == 1
-    }
-
-    /// An address that is no multiple of the size, or that is barred.
-    fn is_misplaced(self, size: u32) -> bool
-        ensures { result ≡ misplaced size self.sr self.res }
-    {
-        !self.res.is_multiple_of(size) || self.is_barred()
-    }
-
     fn is_refused(self) -> bool
         ensures { result ≡ refused self.answer }
     {
@@ -53,15 +32,17 @@ impl Evidence {
             Detection::Nop | Detection::Clr => None,
             Detection::Ri => Some(Fault::Ri),
             Detection::Ovf => self.overflow.then_some(Fault::Ovf),
-            Detection::Cpu => self.in_user_mode().then_some(Fault::Cpu),
+            Detection::Cpu => is_user_mode(self.sr).then_some(Fault::Cpu),
             Detection::Sys => Some(Fault::Sys),
             Detection::Brk => Some(Fault::Brk),
-            Detection::Ww => self.is_misplaced(4).then_some(Fault::Ades),
-            Detection::Wh => self.is_misplaced(2).then_some(Fault::Ades),
-            Detection::Wb => self.is_barred().then_some(Fault::Ades),
-            Detection::Lw | Detection::If => self.is_misplaced(4).then_some(Fault::Adel),
-            Detection::Lh => self.is_misplaced(2).then_some(Fault::Adel),
-            Detection::Lb => self.is_barred().then_some(Fault::Adel),
+            Detection::Ww => is_misplaced(4, self.sr, self.res).then_some(Fault::Ades),
+            Detection::Wh => is_misplaced(2, self.sr, self.res).then_some(Fault::Ades),
+            Detection::Wb => is_barred(self.sr, self.res).then_some(Fault::Ades),
+            Detection::Lw | Detection::If => is_misplaced(4, self.sr, self.res).then_some(
+                Fault::Adel,
+            ),
+            Detection::Lh => is_misplaced(2, self.sr, self.res).then_some(Fault::Adel),
+            Detection::Lb => is_barred(self.sr, self.res).then_some(Fault::Adel),
             Detection::Ibe => self.is_refused().then_some(Fault::Ibe),
             Detection::Dbe => self.is_refused().then_some(Fault::Dbe),
         }

@@ -5,9 +5,6 @@
 pub mod bounds;
 pub mod chip;
 pub mod cycle;
-pub mod fault;
 mod faults;
-pub mod ledger;
-pub mod operands;
-pub mod registers;
+mod operands;
 pub mod sequencing;

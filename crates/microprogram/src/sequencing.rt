@@ -1,20 +1,16 @@
 //! Which row follows.
 
 ghost use Rattle.std.specs.Prelude.{◌≡◌, ◌+◌, ◌*◌, ◌%◌};
-ghost use Rattle.microprogram.specs.Cycle.{ends, following, interrupting, resetting};
-ghost use Rattle.rows.specs.Operation.{one_if};
-ghost use Rattle.microprogram.specs.Registers.{held};
-ghost use Rattle.microprogram.specs.Word.{bit};
+ghost use Rattle.machine.specs.Interrupt.{interrupting, resetting};
+ghost use Rattle.machine.specs.Operation.{one_if};
+ghost use Rattle.machine.specs.Registers.{held};
+ghost use Rattle.machine.specs.Word.{bit};
+ghost use Rattle.microprogram.specs.Cycle.{ends, following};
 
-use super::registers::Registers;
+use super::chip::Chip;
+use machine::interrupt::{is_interrupting, is_resetting};
+use machine::word::{function, opcode, system_number};
 use rows::row::{Row, Sequencing};
-
-/// SR bit 0 and some SR bit 10 + n are set with line n up.
-fn interrupting(sr: u32, lines: u8) -> bool
-    ensures { result ≡ interrupting sr lines }
-{
-    sr % 2 == 1 && (sr / 1024 % 64) & u32::from(lines % 64) != 0
-}
 
 /// A bit of a word, as 1 or 0.
 fn bit(n: u32, word: u32) -> u16
@@ -34,25 +30,25 @@ pub fn ends(sequencing: Sequencing) -> bool
 fn chosen(sr: u32, lines: u8, flag: bool) -> u16
     ensures { result ≡ one_if (resetting lines) * 4 + one_if (interrupting sr lines) * 2 + one_if flag }
 {
-    u16::from(lines / 64 % 2 == 1) * 4 + u16::from(interrupting(sr, lines)) * 2 + u16::from(flag)
+    u16::from(is_resetting(lines)) * 4 + u16::from(is_interrupting(sr, lines)) * 2 + u16::from(flag)
 }
 
-impl Registers {
+impl Chip {
     /// The address of the row that follows.
     pub(crate) fn following(&self, row: &Row, res: u32, zero: bool, lines: u8, flag: bool) -> u16
-        ensures { result ≡ following row.now.sequencing row.now.amic (held self.now) res zero lines flag }
+        ensures { result ≡ following row.now.sequencing row.now.amic (held self.now.registers) res zero lines flag }
     {
-        let (ir, amic) = (self.ir, row.amic);
+        let (ir, ad, amic) = (self.registers.ir, self.registers.ad, row.amic);
         match row.sequencing {
             Sequencing::Next => amic,
-            Sequencing::Decod => 256 + (ir >> 26) as u16 * 4,
-            Sequencing::Spec => 512 + (ir % 64) as u16 * 4,
-            Sequencing::Movc0 => amic / 16 * 16 + ((ir >> 11) % 16) as u16,
-            Sequencing::Rie => amic / 8 * 8 + chosen(self.sr, lines, flag),
+            Sequencing::Decod => 256 + opcode(ir) * 4,
+            Sequencing::Spec => 512 + function(ir) * 4,
+            Sequencing::Movc0 => amic / 16 * 16 + system_number(ir),
+            Sequencing::Rie => amic / 8 * 8 + chosen(self.registers.sr, lines, flag),
             Sequencing::Copro => amic / 4 * 4 + bit(25, ir) * 2 + bit(23, ir),
             Sequencing::Bcond => amic / 4 * 4 + bit(20, ir) * 2 + bit(16, ir),
-            Sequencing::Ad10 => amic / 4 * 4 + (self.ad % 4) as u16,
-            Sequencing::Ad1 => amic / 2 * 2 + bit(1, self.ad),
+            Sequencing::Ad10 => amic / 4 * 4 + (ad % 4) as u16,
+            Sequencing::Ad1 => amic / 2 * 2 + bit(1, ad),
             Sequencing::Unsi => amic / 2 * 2 + bit(28, ir),
             Sequencing::Nul => amic / 2 * 2 + u16::from(zero),
             Sequencing::Sinul => amic / 4 * 4 + bit(31, res) * 2 + u16::from(zero),

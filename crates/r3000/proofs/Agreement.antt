@@ -5,10 +5,12 @@ use Rattle.std.proofs.lemmas.Bool.{both_ways, cases_eq, cond-false}
 use Rattle.bus.specs.Meaning.{Keeps, Meaning}
 use Rattle.bus.specs.declared.request.Answer.{Answer}
 use Rattle.bus.specs.declared.request.Request.{Request}
-use Rattle.book.specs.Book.{Book, Refusals, begun, step}
-use Rattle.book.specs.Instant.{World, asked, tick, ticks}
+use Rattle.book.specs.Book.{Book, Refusals, step}
+use Rattle.paths.specs.Instant.{World, tick, ticks}
+use Rattle.microprogram.specs.Cycle.{State, advanced, asked, ends, powered}
 use Rattle.book.specs.Length.{length_of}
-use Rattle.book.specs.Path.{Fit, Stands, Walks, ends_path, stand}
+use Rattle.book.specs.Fit.{Fit}
+use Rattle.paths.specs.Path.{Stands, Walks, ends_path, stand}
 use Rattle.microprogram.specs.Cycle.{State, advanced, ends, powered}
 use Rattle.r3000.specs.Counts.{report_after}
 use Rattle.r3000.specs.Cycle.{Cycle, next_request}
@@ -77,9 +79,9 @@ module _ {S : Type 0} {means : S → Meaning} {steps : S → Request → Answer 
       below.begins (means start).byte (keeps.sound start).bytes in
       record {
         refuses = refl;
-        fit = first.0;
+        fit = below.fits (means start).byte (keeps.sound start).bytes;
         from = record { state = powered; bytes = (means start).byte };
-        stands = first.1;
+        stands = below.begins (means start).byte;
         ticked = λ l. refl;
         short = omega arith;
         boundaries = refl;

@@ -8,8 +8,8 @@ use Rattle.bus.specs.Request.{access_of}
 use Rattle.bus.specs.declared.request.Answer.{Answer}
 use Rattle.bus.specs.declared.request.Answer.TheVariants.{Wait, BusError, Done}
 use Rattle.bus.specs.declared.request.Request.{Request}
-use Rattle.book.specs.Instant.{StillKeeps, World, asked, changed, still, tick}
-use Rattle.microprogram.specs.Cycle.{advanced, worked}
+use Rattle.paths.specs.Instant.{StillKeeps, World, changed, still, tick}
+use Rattle.microprogram.specs.Cycle.{advanced, asked, worked}
 use Rattle.rows.specs.declared.row.Row.{Row}
 use Rattle.r3000.specs.Cycle.{Asks, Cycle, next_request, is_wait}
 use Rattle.r3000.specs.Machine.{Machine, current_row}

@@ -4,8 +4,8 @@ use Rattle.bus.specs.Meaning.{Keeps, Meaning}
 use Rattle.bus.specs.declared.request.Answer.{Answer}
 use Rattle.bus.specs.declared.request.Request.{Request}
 use Rattle.microprogram.specs.Cycle.{worked}
-use Rattle.microprogram.specs.Registers.{reg}
-use Rattle.microprogram.specs.declared.fault.Fault.{Fault}
+use Rattle.machine.specs.Registers.{reg}
+use Rattle.machine.specs.declared.fault.Fault.{Fault}
 use Rattle.r3000.specs.Cycle.{Cycle}
 use Rattle.r3000.specs.Machine.{Machine, current_row}
 use Rattle.r3000.specs.Promise.{AllKeepPromise}

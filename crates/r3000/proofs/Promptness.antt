@@ -6,11 +6,11 @@ use Rattle.bus.specs.Meaning.{Keeps, Meaning, IsSound}
 use Rattle.bus.specs.declared.request.Access.{Access}
 use Rattle.bus.specs.declared.request.Answer.{Answer}
 use Rattle.bus.specs.declared.request.Request.{Request}
-use Rattle.book.specs.Instant.{asked}
+use Rattle.microprogram.specs.Cycle.{State, access, asked, ends, requested}
 use Rattle.microprogram.specs.Bounds.{accesses, all, ending, successors}
 use Rattle.microprogram.specs.Cycle.{State, access, ends, requested}
-use Rattle.microprogram.specs.Registers.{Regs}
-use Rattle.microprogram.specs.declared.fault.Fault.{Fault}
+use Rattle.machine.specs.Registers.{Regs}
+use Rattle.machine.specs.declared.fault.Fault.{Fault}
 use Rattle.r3000.specs.Cycle.{Cycle, next_request}
 use Rattle.r3000.specs.Machine.{History, Machine, core_at_power_up, current_row, with_lines}
 use Rattle.r3000.specs.Promise.{latest_boundary}

@@ -4,7 +4,7 @@ use Rattle.std.proofs.Common.{◌≡◌, ℕ, zero, suc, Bool, false, T, List, [
 use Rattle.std.proofs.lemmas.Bool.{true≢false}
 use Rattle.microprogram.specs.Bounds.{RowsListed, all, successors}
 use Rattle.microprogram.specs.Cycle.{ends, following}
-use Rattle.microprogram.specs.Registers.{Regs}
+use Rattle.machine.specs.Registers.{Regs}
 use Rattle.r3000.proofs.Tests.{left, right}
 use Rattle.rows.specs.declared.row.Sequencing.{Sequencing}
 use Rattle.rows.specs.declared.row.Sequencing.TheVariants as s

@@ -4,9 +4,9 @@ use Rattle.std.proofs.Common.{refl, sym}
 use Rattle.std.proofs.lemmas.Bool.{eqb-false}
 use Rattle.bus.specs.declared.request.Answer.{Answer}
 use Rattle.microprogram.specs.Cycle.{State, advanced, written}
-use Rattle.microprogram.specs.Registers.{Regs, reg, with_register}
-use Rattle.microprogram.specs.Word.{rd, rt}
-use Rattle.microprogram.specs.declared.fault.Fault.{Fault}
+use Rattle.machine.specs.Registers.{Regs, reg, with_register}
+use Rattle.machine.specs.Word.{rd, rt}
+use Rattle.machine.specs.declared.fault.Fault.{Fault}
 use Rattle.rows.specs.declared.row.Destination.{Destination}
 use Rattle.rows.specs.declared.row.Destination.TheVariants as r
 use Rattle.rows.specs.declared.row.Row.{Row}

@@ -5,8 +5,8 @@ use Rattle.bus.specs.Meaning.{Meaning, look_result}
 use Rattle.bus.specs.declared.request.Answer.{Answer}
 use Rattle.bus.specs.declared.request.Request.{Request}
 use Rattle.microprogram.specs.Cycle.{State}
-use Rattle.microprogram.specs.Ledger.{blank}
-use Rattle.microprogram.specs.declared.ledger.Entry.{Entry}
+use Rattle.machine.specs.Ledger.{blank}
+use Rattle.machine.specs.declared.ledger.Entry.{Entry}
 use Rattle.r3000.specs.Core.{registers_in_order}
 use Rattle.r3000.specs.Cycle.{Cycle, Cycles}
 use Rattle.r3000.specs.Limits.{last_code, last_register, max_cycles, max_lines, max_run}

@@ -1,7 +1,7 @@
 -- What the code's core is to the relation, and the numbers of its registers. Assumes nothing.
 use Rattle.std.specs.Prelude.{ℕ, List, [], ◌∷◌, ◌++◌}
 use Rattle.microprogram.specs.Cycle.{State, seen}
-use Rattle.microprogram.specs.Word.{causes}
+use Rattle.machine.specs.Interrupt.{causes}
 use Rattle.r3000.specs.Machine.{History, Machine}
 use Rattle.r3000.specs.declared.cpu.Core.{Core}
 use Rattle.r3000.specs.declared.processor.Processor.{Processor}

@@ -3,8 +3,7 @@ use Rattle.std.specs.Prelude.{◌≡◌, ℕ, zero, suc, Bool, true, false, cond
 use Rattle.bus.specs.declared.request.Answer.{Answer}
 use Rattle.bus.specs.declared.request.Answer.TheVariants.{Wait, BusError, Done}
 use Rattle.bus.specs.declared.request.Request.{Request}
-use Rattle.book.specs.Instant.{asked}
-use Rattle.microprogram.specs.Cycle.{State, advanced, worked}
+use Rattle.microprogram.specs.Cycle.{State, advanced, asked, worked}
 use Rattle.r3000.specs.Machine.{Machine, current_row, observed_after}
 
 -- how a pile goes on in a cycle: it is asked exactly where the cycle makes a request

@@ -7,8 +7,8 @@ use Rattle.bus.specs.declared.request.Answer.{Answer}
 use Rattle.bus.specs.declared.request.Request.{Request}
 use Rattle.microprogram.specs.Bounds.{most_accesses, most_rows}
 use Rattle.microprogram.specs.Cycle.{State}
-use Rattle.microprogram.specs.Registers.{reg}
-use Rattle.microprogram.specs.declared.fault.Fault.{Fault}
+use Rattle.machine.specs.Registers.{reg}
+use Rattle.machine.specs.declared.fault.Fault.{Fault}
 use Rattle.r3000.specs.Core.{machine_of}
 use Rattle.r3000.specs.Machine.{History, Machine}
 use Rattle.r3000.specs.Reached.{IsReached}

@@ -5,7 +5,7 @@ ghost use Rattle.std.specs.Prelude.{◌≡◌, None};
 use super::denial::Denial;
 use super::limits::REGISTERS;
 use super::report::{Clocked, Report};
-use microprogram::ledger::Entry;
+use machine::ledger::Entry;
 
 /// A call of a core, as a value: lists of calls are printed, and reasoned about. Numbers that are out of range can be
 /// said, since such a call is denied.

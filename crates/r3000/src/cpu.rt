@@ -12,8 +12,8 @@ use super::processor::Processor;
 use super::promise::promise;
 use super::report::{Clocked, Report};
 use bus::memory::Bus;
-use microprogram::ledger::Entry;
-use microprogram::operands::read_cr;
+use machine::interrupt::read_cr;
+use machine::ledger::Entry;
 
 /// A processor on a pile, which is its own from power-up on.
 #[derive(Drop)]

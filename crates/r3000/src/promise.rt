@@ -5,6 +5,7 @@ ghost use Rattle.r3000.specs.Promise.{AllKeepPromise};
 use book::law::longest_step;
 use bus::memory::Bus;
 use microprogram::bounds::longest_path;
+use paths::law::steps_are_paths;
 
 /// Everything that is reached on any pile keeps the promise. This is a proof and no code: who calls it has its
 /// contract.
@@ -14,4 +15,5 @@ pub fn promise<B: Bus>()
     B::keeps();
     let _ = longest_path();
     let _ = longest_step();
+    steps_are_paths();
 }

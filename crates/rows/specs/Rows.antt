@@ -1,8 +1,8 @@
 -- The listing of the microprogram: address, name, the eight fields. Assumes nothing.
 use Rattle.std.specs.Prelude.{ℕ, zero, suc, true, false, List, [], ◌∷◌, ◌==◌, slice_index_or}
 use Prim.Native.String.{String}
-use Rattle.rows.specs.declared.operation.Operation.{Operation}
-use Rattle.rows.specs.declared.operation.Operation.TheVariants as a
+use Rattle.machine.specs.declared.operation.Operation.{Operation}
+use Rattle.machine.specs.declared.operation.Operation.TheVariants as a
 use Rattle.rows.specs.declared.row.Destination.{Destination}
 use Rattle.rows.specs.declared.row.Destination.TheVariants as r
 use Rattle.rows.specs.declared.row.Detection.{Detection}

@@ -1,6 +1,6 @@
 //! A row of the microprogram: eight fields, under the names that the microprogram's listing gives them.
 
-use super::operation::Operation;
+use machine::operation::Operation;
 
 /// OPX: the operand X of the operation box.
 #[derive(Clone, Copy)]

@@ -3,11 +3,11 @@
 ghost use Rattle.std.specs.Prelude.{◌≡◌, slice_index_or};
 ghost use Rattle.rows.specs.Rows.{empty, row_at, rows};
 
-use super::operation::Operation as A;
 use super::row::{
     Destination as R, Detection as E, OperandX as X, OperandY as Y, Row, Sequencing as S,
     Transfer as M,
 };
+use machine::operation::Operation as A;
 
 /// The fields of a row, in the order of the listing: a tuple, so that a row of the table is one line, like the listing's.
 type Fields = (X, Y, A, R, M, E, S, u16);

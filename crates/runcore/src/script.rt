@@ -1,7 +1,7 @@
 //! The calls that the program makes.
 
 use Call::{Clock, Ledger, Lines, Look, Register, Run, Snapshot};
-use microprogram::ledger::CODES;
+use machine::ledger::CODES;
 use r3000::call::{Call, Exchange};
 use std::alloc::{AllocError, Global};
 

@@ -4,7 +4,7 @@ ghost use Rattle.std.specs.Prelude.{Some};
 
 use anyhow::Context;
 use bus::settle::Settled;
-use microprogram::ledger::Entry;
+use machine::ledger::Entry;
 use r3000::call::{Call, Exchange, Reply};
 use r3000::denial::Denial;
 use r3000::limits::REGISTERS;

@@ -7,10 +7,11 @@ pub returns : goal.returns
 returns g c =
     let book = c.longest_step.ensures in
     let rows = c.longest_path.ensures in
+    let paths = c.steps_are_paths.ensures in
     kept (record {
-      memory = book.memory;
-      paths = book.paths;
-      begins = book.begins;
+      memory = paths.memory;
+      paths = paths.paths;
+      begins = paths.begins;
       words = book.words;
       some = book.longest.some;
       rows = subst RowsEnd rows.value rows.bounded;

@@ -1,0 +1,37 @@
+-- Interrupts, and what an entry and a return do to SR and CR. Assumes nothing.
+use Rattle.std.specs.Prelude.{ℕ, ◌+◌, ◌*◌, ◌/◌, ◌%◌, Bool, not, ◌&&◌, Some, None, Option, ◌==◌, bit_and}
+use Rattle.machine.specs.Fault.{code}
+use Rattle.machine.specs.Word.{bit}
+use Rattle.machine.specs.declared.fault.Fault.{Fault}
+
+-- an interrupt is let in: SR bit 0, and some SR bit 10 + n with line n up
+abbrev pub interrupting : ℕ → ℕ → Bool
+interrupting sr lines = bit 0 sr && not (bit_and (sr / 1024 % 64) (lines % 64) == 0)
+
+-- the reset line is bit 6
+abbrev pub resetting : ℕ → Bool
+resetting lines = bit 6 lines
+
+-- the code of what is entered: that of the flag that is up, and 0 for an interrupt
+abbrev pub code_of : Option Fault → ℕ
+code_of None = 0
+code_of (Some f) = code f
+
+-- CR as it is read: bits 15 to 10 are the lines IT5 to IT0 as they stood at the last boundary
+abbrev pub causes : ℕ → ℕ → ℕ
+causes lines cr = cr / 65536 * 65536 + lines % 64 * 1024 + cr % 1024
+
+-- entry: SR's low six bits move left by two, zeros entering, and the code goes to CR's low six bits, times 4
+abbrev pub entered : ℕ → ℕ
+entered sr = sr / 64 * 64 + sr * 4 % 64
+
+abbrev pub caused : ℕ → ℕ → ℕ
+caused code cr = cr / 64 * 64 + code * 4
+
+-- return: SR bits 5 to 2 are copied to bits 3 to 0
+abbrev pub restored : ℕ → ℕ
+restored sr = sr / 16 * 16 + sr / 4 % 16
+
+-- the code in CR
+abbrev pub cause : ℕ → ℕ
+cause cr = cr / 4 % 16

@@ -1,0 +1,80 @@
+-- The operation box, in arithmetic on numbers. Assumes nothing.
+use Rattle.std.specs.Prelude.{ℕ, ◌+◌, ◌-◌, ◌*◌, ◌/◌, ◌%◌, ◌^◌, Bool, false, cond, not, ℤ, pos, ◌+ℤ◌, ◌-ℤ◌, ◌*ℤ◌, ◌==◌, bit_and, bit_or, bit_xor, int_div, int_lt, nat_lt, unsigned_abs}
+use Rattle.std.specs.Int.Signed.{mag, shr_z}
+use Rattle.std.specs.Int.{cast_signed, int_rem_euclid, w32}
+use Rattle.machine.specs.declared.operation.Operation.{Operation}
+use Rattle.machine.specs.declared.operation.Operation.TheVariants.{
+  Sum,
+  Dif,
+  And,
+  Or,
+  Xor,
+  Nor,
+  Sll,
+  Srl,
+  Sra,
+  Sltu,
+  Slt,
+  Mul,
+  Muh,
+  Msl,
+  Msh,
+  Duq,
+  Dur,
+  Dsq,
+  Dsr,
+}
+
+-- the integer that a word stands for in two's complement: from 2 ^ 31 up it is 2 ^ 32 less
+abbrev pub signed : ℕ → ℤ
+signed x = cast_signed w32 x
+
+-- the number from 0 to m - 1 that differs from an integer by a multiple of m
+abbrev pub residue : ℤ → ℕ → ℕ
+residue z m = unsigned_abs (int_rem_euclid z (pos m))
+
+-- the word of an integer
+abbrev pub word : ℤ → ℕ
+word z = residue z (2 ^ 32)
+
+-- whether an integer is one that a word stands for
+abbrev pub fits : ℤ → Bool
+fits z = nat_lt (mag z) (2 ^ 31)
+
+abbrev pub one_if : Bool → ℕ
+one_if b = cond b 1 0
+
+-- RES
+abbrev pub result_of : Operation → ℕ → ℕ → ℕ
+result_of Sum x y = (x + y) % 2 ^ 32
+result_of Dif x y = (x + (2 ^ 32 - y)) % 2 ^ 32
+result_of And x y = bit_and x y
+result_of Or x y = bit_or x y
+result_of Xor x y = bit_xor x y
+result_of Nor x y = 2 ^ 32 - 1 - bit_or x y
+-- shifts take the low five bits of Y; SRA rounds down, which copies the sign
+result_of Sll x y = (x * 2 ^ (y % 32)) % 2 ^ 32
+result_of Srl x y = x / 2 ^ (y % 32)
+result_of Sra x y = word (shr_z (signed x) (2 ^ (y % 32)))
+result_of Sltu x y = one_if (nat_lt x y)
+result_of Slt x y = one_if (int_lt (signed x) (signed y))
+-- the low and the high half of a product of 64 bits, unsigned and signed
+result_of Mul x y = (x * y) % 2 ^ 32
+result_of Muh x y = (x * y) / 2 ^ 32
+result_of Msl x y = word (signed x *ℤ signed y)
+result_of Msh x y = residue (signed x *ℤ signed y) (2 ^ 64) / 2 ^ 32
+-- quotient and remainder; a divisor 0 gives FFFFFFFF and X; signed division cuts toward zero
+result_of Duq x y = cond (y == 0) (2 ^ 32 - 1) (x / y)
+result_of Dur x y = cond (y == 0) x (x - x / y * y)
+result_of Dsq x y = cond (y == 0) (2 ^ 32 - 1) (word (int_div (signed x) (signed y)))
+result_of Dsr x y = cond (y == 0) x (word (signed x -ℤ int_div (signed x) (signed y) *ℤ signed y))
+
+-- signed overflow: a sum or a difference of integers that no word stands for; no other operation overflows
+abbrev pub overflow : Operation → ℕ → ℕ → Bool
+overflow Sum x y = not (fits (signed x +ℤ signed y))
+overflow Dif x y = not (fits (signed x -ℤ signed y))
+overflow _ x y = false
+
+-- the three things that an operation gives together: RES, signed overflow, and whether RES is zero
+abbrev pub operated : Operation → ℕ → ℕ → ℕ × Bool × Bool
+operated op x y = (result_of op x y, overflow op x y, (result_of op x y == 0))

@@ -1,0 +1,62 @@
+-- The registers. Assumes nothing.
+use Rattle.std.specs.Prelude.{ℕ, cond, List, ◌==◌, slice_index, slice_set}
+use Rattle.machine.specs.declared.registers.Registers.{Registers}
+
+-- all registers but DT
+pub record Regs : Type 0 where
+  pub general : List ℕ
+  pub pc : ℕ
+  pub hi : ℕ
+  pub lo : ℕ
+  pub sr : ℕ
+  pub cr : ℕ
+  pub epc : ℕ
+  pub bar : ℕ
+  pub ad : ℕ
+  pub ir : ℕ
+
+-- what the code's record holds of them
+abbrev pub held : Registers → Regs
+held g = record { general = g.general; pc = g.pc; hi = g.hi; lo = g.lo; sr = g.sr; cr = g.cr; epc = g.epc; bar = g.bar; ad = g.ad; ir = g.ir }
+
+-- a general register
+abbrev pub reg : Regs → ℕ → ℕ
+reg g n = slice_index g.general n
+
+-- the registers with one of them changed
+abbrev pub with_general : List ℕ → Regs → Regs
+with_general v g = record g { general = v }
+
+abbrev pub with_pc : ℕ → Regs → Regs
+with_pc v g = record g { pc = v }
+
+abbrev pub with_hi : ℕ → Regs → Regs
+with_hi v g = record g { hi = v }
+
+abbrev pub with_lo : ℕ → Regs → Regs
+with_lo v g = record g { lo = v }
+
+abbrev pub with_sr : ℕ → Regs → Regs
+with_sr v g = record g { sr = v }
+
+abbrev pub with_cr : ℕ → Regs → Regs
+with_cr v g = record g { cr = v }
+
+abbrev pub with_epc : ℕ → Regs → Regs
+with_epc v g = record g { epc = v }
+
+abbrev pub with_bar : ℕ → Regs → Regs
+with_bar v g = record g { bar = v }
+
+abbrev pub with_ad : ℕ → Regs → Regs
+with_ad v g = record g { ad = v }
+
+abbrev pub with_ir : ℕ → Regs → Regs
+with_ir v g = record g { ir = v }
+
+-- a write to a general register; register 0 stays
+abbrev pub with_register : ℕ → ℕ → List ℕ → List ℕ
+with_register n v general = cond (n == 0) general (slice_set general n v)
+
+abbrev pub put : ℕ → ℕ → Regs → Regs
+put n v g = with_general (with_register n v g.general) g

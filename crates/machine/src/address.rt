@@ -1,0 +1,25 @@
+//! Which addresses may be used.
+
+ghost use Rattle.std.specs.Prelude.{◌≡◌};
+ghost use Rattle.machine.specs.Address.{barred, misplaced, user};
+
+/// SR bit 1.
+pub fn is_user_mode(sr: u32) -> bool
+    ensures { result ≡ user sr }
+{
+    sr / 2 % 2 == 1
+}
+
+/// User mode may not use an address with bit 31.
+pub fn is_barred(sr: u32, address: u32) -> bool
+    ensures { result ≡ barred sr address }
+{
+    is_user_mode(sr) && address / 0x8000_0000 % 2 == 1
+}
+
+/// An address that is no multiple of the size, or that is barred.
+pub fn is_misplaced(size: u32, sr: u32, address: u32) -> bool
+    ensures { result ≡ misplaced size sr address }
+{
+    !address.is_multiple_of(size) || is_barred(sr, address)
+}

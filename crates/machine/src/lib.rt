@@ -1,0 +1,13 @@
+//! What the instruction book and the rows both speak of: registers, words and their fields, the operation box, faults and
+//! their codes, the ledger, and the rules of addresses and interrupts.
+
+#![tactic(auto)]
+
+pub mod address;
+pub mod fault;
+pub mod interrupt;
+pub mod law;
+pub mod ledger;
+pub mod operation;
+pub mod registers;
+pub mod word;

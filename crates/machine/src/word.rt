@@ -1,0 +1,72 @@
+//! The fields of an instruction.
+
+ghost use Rattle.std.specs.Prelude.{◌≡◌, ◌<◌};
+ghost use Rattle.machine.specs.Word.{distance, extended, function, named, opcode, shift, system, target};
+
+/// The fields that name general registers, each by the lowest of its five bits.
+#[derive(Clone, Copy)]
+pub enum Field {
+    Rs = 21,
+    Rt = 16,
+    Rd = 11,
+}
+
+impl Field {
+    /// The number of the register that the field names.
+    pub fn register(self, ir: u32) -> usize
+        ensures is { result ≡ named self ir }
+        ensures below { result < 32 }
+    {
+        ((ir >> self as u32) % 32) as usize
+    }
+}
+
+/// Bits 31–26.
+pub fn opcode(ir: u32) -> u16
+    ensures { result ≡ opcode ir }
+{
+    (ir >> 26) as u16
+}
+
+/// Bits 5–0.
+pub fn function(ir: u32) -> u16
+    ensures { result ≡ function ir }
+{
+    (ir % 64) as u16
+}
+
+/// Bits 14–11: the number of a system register.
+pub fn system_number(ir: u32) -> u16
+    ensures { result ≡ system ir }
+{
+    ((ir >> 11) % 16) as u16
+}
+
+/// Bits 10–6.
+pub fn shift_amount(ir: u32) -> u32
+    ensures { result ≡ shift ir }
+{
+    (ir >> 6) % 32
+}
+
+/// Bits 15–0, their sign extended.
+pub fn signed_immediate(ir: u32) -> u32
+    ensures { result ≡ extended ir }
+{
+    let immediate = (ir % 65_536) as u16;
+    i32::from(immediate.cast_signed()).cast_unsigned()
+}
+
+/// Four times that.
+pub fn branch_offset(ir: u32) -> u32
+    ensures { result ≡ distance ir }
+{
+    signed_immediate(ir).wrapping_mul(4)
+}
+
+/// Four times bits 25–0.
+pub fn jump_index(ir: u32) -> u32
+    ensures { result ≡ target ir }
+{
+    ir % 0x400_0000 * 4
+}

@@ -1,0 +1,13 @@
+mod Arrive
+mod Branches
+mod Decode
+mod Entries
+mod Jumps
+mod Loads
+mod Steps
+mod Still
+mod Stores
+mod Straight
+mod System
+mod Upto
+mod Walk

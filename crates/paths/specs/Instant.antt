@@ -1,0 +1,49 @@
+-- The microprogram with a memory that never waits. Assumes nothing.
+use Rattle.std.specs.Prelude.{◌≡◌, ℕ, zero, suc, cond, Some, None, Option}
+use Rattle.bus.specs.Meaning.{Meaning, byte_after, answer, is_refused, stored_byte}
+use Rattle.bus.specs.Request.{first_address, byte_count}
+use Rattle.bus.specs.declared.request.Action.TheVariants as action
+use Rattle.bus.specs.declared.request.Request.{Request}
+use Rattle.rows.specs.Rows.{row_at}
+use Rattle.rows.specs.declared.row.Row.{Row}
+use Rattle.microprogram.specs.Cycle.{State, advanced, asked, worked}
+use Rattle.book.specs.Book.{Refusals}
+
+-- the processor and the bytes of its memory
+pub record World : Type 0 where
+  pub state : State
+  pub bytes : ℕ → ℕ
+
+-- bytes and is_refused words as a memory with no waits
+abbrev pub still : Refusals → (ℕ → ℕ) → Meaning
+still r bytes = record { byte = bytes; unreadable = r.unreadable; unwritable = r.unwritable; waits = λ x. 0; longest = 0 }
+
+-- the request of a state in a row
+abbrev pub asked : Row → State → Option Request
+asked w c = requested c.flag (access c.regs w.transfer (worked w c).0)
+
+-- the bytes byte_after a request: only a write that is not is_refused changes any
+abbrev pub changed : Meaning → Option Request → ℕ → ℕ
+changed m None = m.byte
+changed m (Some q) =
+    elim q.action [ action.Read ↦ m.byte | action.Write w d ↦ cond (is_refused m q) m.byte (stored_byte (first_address w q.address) (byte_count w) d m.byte) ]
+
+-- that is what the bus says of the bytes byte_after a request
+abbrev pub StillKeeps : Type 0
+StillKeeps = (r : Refusals) (bytes : ℕ → ℕ) (q : Request) (x : ℕ) → changed (still r bytes) (Some q) x ≡ byte_after (still r bytes) q x
+
+-- one cycle in a row
+abbrev pub ticked : Row → Refusals → ℕ → World → World
+ticked w r lines s =
+    record {
+      state = advanced w lines (worked w s.state) (option_map (answer (still r s.bytes)) (asked w s.state)) s.state;
+      bytes = changed (still r s.bytes) (asked w s.state);
+    }
+
+-- one cycle
+unfoldable pub tick : Refusals → ℕ → World → World
+tick r lines s = ticked (row_at s.state.row) r lines s
+
+unfoldable pub ticks : Refusals → ℕ → ℕ → World → World
+ticks r lines zero s = s
+ticks r lines (suc n) s = ticks r lines n (tick r lines s)
