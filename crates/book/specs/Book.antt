@@ -37,7 +37,7 @@ pub record Book : Type 0 where
   pub lines : ℕ
   pub event : Event
 
--- the first_address state, at power-up: the memory's bytes, event reset, and all else zero
+-- the first state, at power-up: the memory's bytes, event reset, and all else zero
 abbrev pub begun : (ℕ → ℕ) → Book
 begun bytes =
     record {

@@ -13,7 +13,7 @@ use Rattle.bus.specs.declared.request.Request.{Request}
 pub record Meaning : Type 0 where
   -- the byte at an address
   pub byte : ℕ → ℕ
-  -- the words, by their names, that are is_refused to reads, and those is_refused to writes
+  -- the words, by their names, that are refused to reads, and those refused to writes
   pub unreadable : ℕ → Bool
   pub unwritable : ℕ → Bool
   -- how often a request will be answered by wait before it ends
@@ -36,12 +36,12 @@ pub record IsSound (m : Meaning) : Type 0 where
 abbrev pub word_at : (ℕ → ℕ) → ℕ → ℕ
 word_at byte w = byte w + byte (w + 1) * 256 + byte (w + 2) * 65536 + byte (w + 3) * 16777216
 
--- the bytes byte_after the n low bytes of the data were written_byte from an address on
+-- the bytes after the n low bytes of the data were written from an address on
 abbrev pub stored_byte : ℕ → ℕ → ℕ → (ℕ → ℕ) → ℕ → ℕ
 stored_byte from n d byte address =
     cond (nat_le from address && nat_lt address (from + n)) (d / 256 ^ (address - from) % 256) (byte address)
 
--- whether a request's word is is_refused to its kind
+-- whether a request's word is refused to its kind
 abbrev pub is_refused : Meaning → Request → Bool
 is_refused m q =
     elim q.action [
@@ -53,7 +53,7 @@ is_refused m q =
 abbrev pub is_stalled : Meaning → Request → Bool
 is_stalled m q = nat_lt 0 (m.waits (access_of q))
 
--- what done carries: the word that was read, and 0 byte_after a write
+-- what done carries: the word that was read, and 0 after a write
 abbrev pub done_word : Meaning → Request → ℕ
 done_word m q = elim q.action [ action.Read ↦ word_at m.byte (word_of q.address) | action.Write w d ↦ 0 ]
 
@@ -65,26 +65,26 @@ written_byte m q address =
       | action.Write w d ↦ stored_byte (first_address w q.address) (byte_count w) d m.byte address
     ]
 
--- the answer: wait exactly while waits are left, else bus error exactly where the word is is_refused, else done
+-- the answer: wait exactly while waits are left, else bus error exactly where the word is refused, else done
 abbrev pub answer : Meaning → Request → Answer
 answer m q = cond (is_stalled m q) Wait (cond (is_refused m q) BusError (Done (done_word m q)))
 
--- the byte at an address byte_after the answer: only done changes any
+-- the byte at an address after the answer: only done changes any
 abbrev pub byte_after : Meaning → Request → ℕ → ℕ
 byte_after m q address = cond (is_stalled m q || is_refused m q) (m.byte address) (written_byte m q address)
 
--- points 1 to 4: a request, its answer, and the memory before and byte_after it
+-- points 1 to 4: a request, its answer, and the memory before and after it
 pub record Answers (m : Meaning) (q : Request) (a : Answer) (n : Meaning) : Type 0 where
   pub answered : a ≡ answer m q
   pub bytes : (address : ℕ) → n.byte address ≡ byte_after m q address
   -- a wait takes one from the waits of its own request; all other waits are free
   pub counted : is_stalled m q ≡ true → n.waits (access_of q) + 1 ≡ m.waits (access_of q)
-  -- what is is_refused, and W, never change
+  -- what is refused, and W, never change
   pub unreadable : (w : ℕ) → n.unreadable w ≡ m.unreadable w
   pub unwritable : (w : ℕ) → n.unwritable w ≡ m.unwritable w
   pub longest : n.longest ≡ m.longest
 
--- point 5, look: the byte, or none where its word is is_refused to reads
+-- point 5, look: the byte, or none where its word is refused to reads
 abbrev pub look_result : Meaning → ℕ → Option ℕ
 look_result m address = cond (m.unreadable (word_of address)) None (Some (m.byte address))
 

@@ -21,7 +21,7 @@ abbrev pub kind_of : Action → Kind
 kind_of action.Read = kind.Read
 kind_of (action.Write w d) = kind.Write w
 
--- a request's kind and address; two requests are the same_access when these agree
+-- a request's kind and address; two requests are the same when these agree
 abbrev pub access_of : Request → Access
 access_of q = record { address = q.address; kind = kind_of q.action }
 
@@ -35,7 +35,7 @@ kind_number (kind.Write Byte) = 3
 abbrev pub same_access : Access → Access → Bool
 same_access x y = x.address == y.address && kind_number x.kind == kind_number y.kind
 
--- the same_access action at another address
+-- the same action at another address
 abbrev pub at_address : ℕ → Request → Request
 at_address address q = record { address = address; action = q.action }
 

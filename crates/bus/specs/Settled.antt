@@ -13,7 +13,7 @@ abbrev pub Waits : {S : Type 0} → (S → Request → Answer → S → Type 0) 
 Waits steps q zero s t = t ≡ s
 Waits {S} steps q (suc n) s t = (u : S) × Waits steps q n s u × steps u q Wait t
 
--- how a request ends: in a fault that carries its address where the word is is_refused, else in what done carries
+-- how a request ends: in a fault that carries its address where the word is refused, else in what done carries
 abbrev pub outcome : Meaning → Request → Result ℕ BusFault
 outcome m q = cond (is_refused m q) (Err (record { address = q.address })) (Ok (done_word m q))
 

@@ -28,13 +28,13 @@ none_left None bytes e = refl
 module _ {B : Type 0} {means : B → Meaning} {steps : B → Request → Answer → B → Type 0}
     (settles : SettlesAsDecided means steps) (cycles : CyclesAsDecided means steps)
     (kept : (start : B) → AllKeepPromise means steps start) where
-  -- a station is seen as its stage_of_station is shown, whatever is behind it
+  -- a station is seen as its stage is shown, whatever is behind it
   sight_same : (s : B) (h : History) (pile : B) (o : Option Processor)
       → shown means (stage_of_station s h (record { pile = pile; processor = o })) ≡ sight_of means pile o
   sight_same s h pile None = refl
   sight_same s h pile (Some processor) = refl
 
-  -- a stage_of_station that stays keeps the promise
+  -- a stage that stays keeps the promise
   stays : (e f : Stage B) → f ≡ e → StageIsReached means steps e → StageIsPromised means steps f
   stays e f same r = promised kept f (subst (StageIsReached means steps) (sym same) r)
 

@@ -19,7 +19,7 @@ module _ {S : Type 0} {means : S → Meaning} {steps : S → Request → Answer 
   promised (loading s) r = tt
   promised (running s c) r = record { reached = r; promise = kept s c r }
 
-  -- and so does a core that was just core_at_power_up
+  -- and so does a core that was just built
   early_does : (s : S) (x : EarlyEffect) (r : Result Reply JobFault) (e : Stage S) → EarlyDoes means steps s x r e
       → StageIsPromised means steps e
   early_does s (effect.store address word) r e h = subst (StageIsPromised means steps) (sym h.4) tt

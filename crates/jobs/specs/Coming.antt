@@ -1,4 +1,4 @@
--- A job at work, as the code has it: the replies_to_lines that are still to come. Assumes nothing.
+-- A job at work, as the code has it: the replies that are still to come. Assumes nothing.
 use Rattle.std.specs.Prelude.{ℕ, List, [], ◌∷◌, ◌++◌, MatchOption, Some, None, Option, option_to_list}
 use Rattle.std.specs.Iterator.{YieldsFirst}
 use Rattle.bus.specs.Decided.{IsDecided}
@@ -17,7 +17,7 @@ use Rattle.r3000.specs.Machine.{History, no_history}
 use Rattle.r3000.specs.declared.processor.Processor.{Processor}
 
 module _ {B : Type 0} where
-  -- the stage_of_station of a job, on the pile of its start; a job has its pile whenever it is not at work, and
+  -- the stage of a job, on the pile of its start; a job has its pile whenever it is not at work, and
   -- without one it would be at its end
   abbrev pub job_stage : B → History → Option B → Option Processor → Stage B
   job_stage s h (Some pile) processor = stage_of_station s h (record { pile = pile; processor = processor })
@@ -44,7 +44,7 @@ module _ {B : Type 0} where
     sight_of pile None = sight.loading (means pile)
     sight_of pile (Some processor) = sight.running (core_meaning means (machine_of_parts no_history processor pile))
 
-    -- on a decided memory the replies_to_lines that are still to come of a job are these
+    -- on a decided memory the replies that are still to come of a job are these
     abbrev pub replies_to_come : (Meaning → Request → Meaning) → Job B → List Reply
     replies_to_come next x =
         option_to_list x.due
@@ -66,7 +66,7 @@ module _ {B : Type 0} where
         pub pile : B
         pub history : History
         pub gives : GivesNext means steps (standing_of s h x) r (standing_of pile history y)
-        -- where the core could be reached, the promise holds of it, and the replies_to_lines are those of the job
+        -- where the core could be reached, the promise holds of it, and the replies are those of the job
         pub promise : StageIsReached means steps (standing_of s h x).stage
             → StageIsPromised means steps (standing_of pile history y).stage
         pub leaves : StageIsReached means steps (standing_of s h x).stage

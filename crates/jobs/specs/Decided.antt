@@ -64,13 +64,13 @@ module _ (next : Meaning → Request → Meaning) where
   line_answer e n (Ok o) = let turn = order_answer e o in
       record { reply = line_replies n turn.reply; then = turn.then }
 
-  -- the replies_to_lines to lines one after another, numbered
+  -- the replies to lines one after another, numbered
   abbrev pub replies_to_lines : Sight → ℕ → List (List ℕ) → List Reply
   replies_to_lines e n [] = []
   replies_to_lines e n (l ∷ ls) = let turn = line_answer e n (read_line l) in
       turn.reply ++ replies_to_lines turn.then (n + 1) ls
 
-  -- the replies_to_lines to a whole job on a memory: one of more bytes than the limit is too long
+  -- the replies to a whole job on a memory: one of more bytes than the limit is too long
   abbrev pub replies_to_job : ℕ → Meaning → List ℕ → List Reply
   replies_to_job limit m job =
       cond (nat_lt limit (length job)) (denial_reply 0 fault.TooLong ∷ [])

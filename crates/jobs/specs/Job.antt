@@ -14,7 +14,7 @@ use Rattle.text.specs.declared.order.Order.{Order}
 use Rattle.text.specs.declared.reply.Reply.{Reply}
 use Rattle.text.specs.declared.reply.Reply.TheVariants as reply
 
--- a byte with_first_byte the first line
+-- a byte begins the first line
 abbrev pub with_first_byte : ℕ → List (List ℕ) → List (List ℕ)
 with_first_byte b [] = (b ∷ []) ∷ []
 with_first_byte b (l ∷ ls) = (b ∷ l) ∷ ls
@@ -28,7 +28,7 @@ text_lines_of (b ∷ bs) = cond (b == 10) ([] ∷ text_lines_of bs) (with_first_
 abbrev pub denial_reply : ℕ → JobFault → Reply
 denial_reply n f = reply.Denied (record { number = number_of f; line = n; address = address_of f })
 
--- the replies to a line: its own, or that of its denial_reply
+-- the replies to a line: its own, or that of its denial
 abbrev pub line_replies : ℕ → Result Reply JobFault → List Reply
 line_replies n (Ok r) = r ∷ []
 line_replies n (Err f) = denial_reply n f ∷ []

@@ -24,7 +24,7 @@ use Rattle.text.specs.declared.order.Order.{Order}
 use Rattle.text.specs.declared.reply.Reply.{Reply}
 use Rattle.text.specs.declared.reply.Reply.TheVariants as reply
 
--- before the start there is a pile; after it a core, and the pile that it was core_at_power_up on
+-- before the start there is a pile; after it a core, and the pile that it was built on
 pub data Stage (S : Type 0) : Type 0 where
   loading : S → Stage S
   running : S → Machine S → Stage S
@@ -78,7 +78,7 @@ module _ {S : Type 0} (means : S → Meaning) (steps : S → Request → Answer 
   AnswersOrder (running s c) o r e =
       (d : Machine S) × LateAnswers c ((decision o).after c.processor c.observed.report) r d × (e ≡ running s d)
 
-  -- the core, if there is one, can be reached on the pile that it was core_at_power_up on
+  -- the core, if there is one, can be reached on the pile that it was built on
   abbrev pub StageIsReached : Stage S → Type 0
   StageIsReached (loading s) = Unit {0}
   StageIsReached (running s c) = StageIsReached steps s c

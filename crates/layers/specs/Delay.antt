@@ -10,7 +10,7 @@ use Rattle.bus.specs.declared.request.Answer.{Answer}
 use Rattle.bus.specs.declared.request.Answer.TheVariants.{Wait, BusError, Done}
 use Rattle.bus.specs.declared.request.Request.{Request}
 
--- n, own_waits where W below and n together would pass max_wait
+-- n, lowered where W below and n together would pass max_wait
 abbrev pub own_waits : ℕ → ℕ → ℕ
 own_waits n longest = min n (max_wait - longest)
 
@@ -19,7 +19,7 @@ abbrev pub count_left : ℕ → State → Access → ℕ
 count_left n Idle x = n
 count_left n (Counting access count) x = cond (same_access access x) (min count n) n
 
--- the delay's own waits come before those of the memory below, and W grows by n, own_waits
+-- the delay's own waits come before those of the memory below, and W grows by n, lowered
 abbrev pub delay : ℕ → State → Meaning → Meaning
 delay n state m =
     record {

@@ -5,7 +5,7 @@ use Rattle.bus.specs.Request.{word_of}
 use Rattle.memories.specs.Placement.{placed_bytes}
 use Rattle.memories.specs.Region.{byte_at, is_outside}
 
--- whether there is no such word: the bytes may not stand at the base, or it lies is_outside of them
+-- whether there is no such word: the bytes may not stand at the base, or it lies outside of them
 abbrev pub is_missing : ℕ → List ℕ → ℕ → Bool
 is_missing base bytes address = is_outside base (length (placed_bytes base bytes)) (word_of address)
 

@@ -4,11 +4,11 @@ use Rattle.bus.specs.Meaning.{Meaning, byte_after, answer}
 use Rattle.bus.specs.declared.request.Answer.{Answer}
 use Rattle.bus.specs.declared.request.Request.{Request}
 
--- the byte at an address: is_outside the range, 0
+-- the byte at an address: outside the range, 0
 abbrev pub byte_at : ℕ → List ℕ → ℕ → ℕ
 byte_at base bytes address = cond (nat_le base address) (slice_index bytes (address - base) % 256) 0
 
--- whether a word lies is_outside the range
+-- whether a word lies outside the range
 abbrev pub is_outside : ℕ → ℕ → ℕ → Bool
 is_outside base n w = not (nat_le base w && nat_le (w + 4) (base + n))
 

@@ -1,5 +1,6 @@
 -- The microprogram with a memory that never waits. Assumes nothing.
 use Rattle.std.specs.Prelude.{◌≡◌, ℕ, zero, suc, cond, Some, None, Option}
+use Rattle.std.specs.Option.{option_map}
 use Rattle.bus.specs.Meaning.{Meaning, byte_after, answer, is_refused, stored_byte}
 use Rattle.bus.specs.Request.{first_address, byte_count}
 use Rattle.bus.specs.declared.request.Action.TheVariants as action
@@ -14,21 +15,17 @@ pub record World : Type 0 where
   pub state : State
   pub bytes : ℕ → ℕ
 
--- bytes and is_refused words as a memory with no waits
+-- bytes and refused words as a memory with no waits
 abbrev pub still : Refusals → (ℕ → ℕ) → Meaning
 still r bytes = record { byte = bytes; unreadable = r.unreadable; unwritable = r.unwritable; waits = λ x. 0; longest = 0 }
 
--- the request of a state in a row
-abbrev pub asked : Row → State → Option Request
-asked w c = requested c.flag (access c.regs w.transfer (worked w c).0)
-
--- the bytes byte_after a request: only a write that is not is_refused changes any
+-- the bytes after a request: only a write that is not refused changes any
 abbrev pub changed : Meaning → Option Request → ℕ → ℕ
 changed m None = m.byte
 changed m (Some q) =
     elim q.action [ action.Read ↦ m.byte | action.Write w d ↦ cond (is_refused m q) m.byte (stored_byte (first_address w q.address) (byte_count w) d m.byte) ]
 
--- that is what the bus says of the bytes byte_after a request
+-- that is what the bus says of the bytes after a request
 abbrev pub StillKeeps : Type 0
 StillKeeps = (r : Refusals) (bytes : ℕ → ℕ) (q : Request) (x : ℕ) → changed (still r bytes) (Some q) x ≡ byte_after (still r bytes) q x
 

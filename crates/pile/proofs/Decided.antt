@@ -100,7 +100,7 @@ both_zero : (b : Bool) → ◌≡◌ {A = ℕ} (cond b 0 0) 0
 both_zero true = refl
 both_zero false = refl
 
--- each request makes of the pile's meaning exactly the meaning_after one
+-- each request makes of the pile's meaning exactly the next one
 pub decided : Keeps pile_means PileSteps → IsDecided pile_means PileSteps meaning_after
 decided keeps =
     delay_decided (split_means ram_means ram_means) (SplitSteps RamSteps RamSteps) keeps

@@ -4,7 +4,7 @@ use Rattle.bus.specs.Meaning.{Meaning, byte_after, is_stalled}
 use Rattle.bus.specs.Request.{access_of, same_access}
 use Rattle.bus.specs.declared.request.Request.{Request}
 
--- what it means byte_after a request: a wait takes one from the waits of its own request, and all others are the
+-- what it means after a request: a wait takes one from the waits of its own request, and all others are the
 -- longest
 abbrev pub meaning_after : Meaning → Request → Meaning
 meaning_after m q =

@@ -16,7 +16,7 @@ use Rattle.r3000.specs.Machine.{Machine, current_row}
 use Rattle.r3000.proofs.Parts.{state_of}
 use Rattle.r3000.specs.Promise.{refusals}
 
--- an answer that is no wait was not is_stalled, and a wait was
+-- an answer that is no wait was not stalled, and a wait was
 not_wait : (r : Bool) (w : ℕ) → Wait ≡ cond r BusError (Done w) → ⊥
 not_wait true w e = true≢false (ap (λ a. is_wait (Some a)) e)
 not_wait false w e = true≢false (ap (λ a. is_wait (Some a)) e)
@@ -29,11 +29,11 @@ stalls m q = by (is_stalled m q) (is_refused m q) (done_word m q)
     by false true w = refl
     by false false w = refl
 
--- the memory without waits that has the bytes and is_refused words of a meaning
+-- the memory without waits that has the bytes and refused words of a meaning
 abbrev pub stilled : Meaning → Meaning
 stilled m = still (refusals m) m.byte
 
--- where a request is not is_stalled, answer and bytes are those of a memory without waits
+-- where a request is not stalled, answer and bytes are those of a memory without waits
 pub answers_still : (m : Meaning) (q : Request) → is_stalled m q ≡ false → answer m q ≡ answer (stilled m) q
 answers_still m q e = rw e
 
@@ -41,7 +41,7 @@ pub bytes_still : StillKeeps → (m : Meaning) (q : Request) → is_stalled m q 
     → byte_after m q x ≡ changed (stilled m) (Some q) x
 bytes_still memory m q e x = (rw e) ∙ sym (memory (refusals m) m.byte q x)
 
--- where it is is_stalled, the bytes stay
+-- where it is stalled, the bytes stay
 pub bytes_stay : (m : Meaning) (q : Request) → is_stalled m q ≡ true → (x : ℕ) → byte_after m q x ≡ m.byte x
 bytes_stay m q e x = rw e
 
@@ -79,7 +79,7 @@ module _ {S : Type 0} {means : S → Meaning} {steps : S → Request → Answer 
       held : is_stalled (means s) q ≡ true
       held = sym (stalls (means s) q) ∙ sym (e ∙ ap is_wait (h.1 ∙ ap Some told.answered))
 
-  -- what is is_refused, and W, stay
+  -- what is refused, and W, stay
   pub fixed : (s t : S) (o : Option Request) (a : Option Answer) → Asks steps s o a t
       → (refusals (means t) ≡ refusals (means s)) × ((means t).longest ≡ (means s).longest)
   fixed s t None a h = (ap (λ p. refusals (means p)) h.1, ap (λ p. (means p).longest) h.1)

@@ -1,4 +1,4 @@
--- On a decided memory after_cycles are those of a function. Assumes nothing.
+-- On a decided memory cycles are those of a function. Assumes nothing.
 use Rattle.std.proofs.Common.{◌≡◌, ℕ, zero, suc, Bool, Some, None, Option, ap, ap₂, ◌∙◌}
 use Rattle.bus.specs.Decided.{IsDecided}
 use Rattle.bus.specs.Meaning.{Keeps, Meaning}

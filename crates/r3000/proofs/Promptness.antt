@@ -7,7 +7,7 @@ use Rattle.bus.specs.declared.request.Access.{Access}
 use Rattle.bus.specs.declared.request.Answer.{Answer}
 use Rattle.bus.specs.declared.request.Request.{Request}
 use Rattle.microprogram.specs.Cycle.{State, access, asked, ends, requested}
-use Rattle.microprogram.specs.Bounds.{accesses, all, ending, successors}
+use Rattle.microprogram.specs.Bounds.{accesses, all, path_budget, successors, within}
 use Rattle.microprogram.specs.Cycle.{State, access, ends, requested}
 use Rattle.machine.specs.Registers.{Regs}
 use Rattle.machine.specs.declared.fault.Fault.{Fault}
@@ -46,13 +46,13 @@ true_test : (b : Bool) → T b → b ≡ true
 true_test true h = refl
 true_test false h = absurd h
 
--- the accesses of the row at current_row
+-- the accesses of the row at hand
 abbrev touches : State → ℕ
 touches c = accesses (current_row c).transfer
 
--- the first row of an ending path makes no more accesses than the path
-first : (rows touch : ℕ) (c : State) → T (ending rows touch c.row) → touches c ≤ touch
-unfolding ending
+-- the first row of an within path makes no more accesses than the path
+first : (rows touch : ℕ) (c : State) → T (within rows touch c.row) → touches c ≤ touch
+unfolding within
 first zero touch c h = absurd h
 first (suc rows) touch c h = leb-true _ _ (true_test _ (left (leb (touches c) touch) _ h))
 
@@ -61,10 +61,10 @@ apart true b h e = absurd (true≢false e)
 apart false b h e = h
 
 -- and the rest of the path is one row shorter
-rest : (rows touch : ℕ) (c : State) → T (ending rows touch c.row) → ends (current_row c).sequencing ≡ false
+rest : (rows touch : ℕ) (c : State) → T (within rows touch c.row) → ends (current_row c).sequencing ≡ false
     → (n : ℕ) × (rows ≡ n + 1)
-    × T (all (ending n (touch - touches c)) (successors (current_row c).sequencing (current_row c).amic))
-unfolding ending
+    × T (all (within n (touch - touches c)) (successors (current_row c).sequencing (current_row c).amic))
+unfolding within
 rest zero touch c h e = absurd h
 rest (suc rows) touch c h e =
     (rows, omega arith, apart (ends (current_row c).sequencing) _ (right (leb (touches c) touch) _ h) e)
@@ -77,15 +77,15 @@ module _ {S : Type 0} {means : S → Meaning} {steps : S → Request → Answer 
     pub row : c.processor.state.row < 1024
     pub rows : ℕ
     pub touch : ℕ
-    pub path : T (ending rows touch c.processor.state.row)
+    pub path : T (within rows touch c.processor.state.row)
     pub near : since + rows
         + ((touch - touches c.processor.state) * (means start).longest + waiting (means c.pile) (next_request c)) ≤ 7
         + 2 * (means start).longest
 
   -- a row that is come to
   comes : (since : ℕ) (c : Machine S) → (means c.pile).longest ≡ (means start).longest → c.processor.state.row < 1024
-      → (rows touch : ℕ) → T (ending rows touch c.processor.state.row)
-      → since + rows + touch * (means start).longest ≤ 7 + 2 * (means start).longest → Soon since c
+      → (rows touch : ℕ) → T (within rows touch c.processor.state.row)
+      → since + rows + touch * (means start).longest ≤ latest_boundary (means start) → Soon since c
   comes since c longest row rows touch path near =
       record {
         longest = longest;
@@ -108,7 +108,7 @@ module _ {S : Type 0} {means : S → Meaning} {steps : S → Request → Answer 
 
   -- a boundary, and power-up
   anew : (c : Machine S) → (means c.pile).longest ≡ (means start).longest → c.processor.state.row < 1024 → Soon 0 c
-  anew c longest row = comes 0 c longest row 7 2 (right _ _ (below.rows c.processor.state.row row)) (omega arith)
+  anew c longest row = comes 0 c longest row path_budget.rows path_budget.accesses (right _ _ (below.rows c.processor.state.row row)) (omega arith)
 
   pub soon_start : Soon 0 (core_at_power_up start)
   soon_start = anew (core_at_power_up start) refl (omega arith)
@@ -142,13 +142,13 @@ module _ {S : Type 0} {means : S → Meaning} {steps : S → Request → Answer 
         row = subst (λ s. s.row < 1024) (sym same) near.row;
         rows = near.rows;
         touch = near.touch;
-        path = subst (λ s. T (ending near.rows near.touch s.row)) (sym same) near.path;
+        path = subst (λ s. T (within near.rows near.touch s.row)) (sym same) near.path;
         near =
             subst
             (λ s.
             since + 1 + near.rows
             + ((near.touch - touches s) * (means start).longest + waiting (means d.pile) (asked (current_row s) s))
-            ≤ 7 + 2 * (means start).longest) (sym same)
+            ≤ latest_boundary (means start)) (sym same)
             (omega (arith, near.near));
       }
 
@@ -158,13 +158,13 @@ module _ {S : Type 0} {means : S → Meaning} {steps : S → Request → Answer 
   soon_on since c d h e near = go (rest near.rows near.touch c.processor.state near.path e)
     where
       go : (n : ℕ) × (near.rows ≡ n + 1)
-          × T (all (ending n (near.touch - touches c.processor.state))
+          × T (all (within n (near.touch - touches c.processor.state))
           (successors (current_row c.processor.state).sequencing (current_row c.processor.state).amic))
           → Soon (since + 1) d
       go r =
           comes (since + 1) d (stays since c d false h near) (is_row since c d h near) r.0
           (near.touch - touches c.processor.state)
-          (next (ending r.0 (near.touch - touches c.processor.state)) c d h r.2)
+          (next (within r.0 (near.touch - touches c.processor.state)) c d h r.2)
           (omega (arith, near.near, r.1))
 
   soon_over : (since : ℕ) (c d : Machine S) → Cycle steps c false d → Soon since c → Soon 0 d
@@ -197,9 +197,9 @@ module _ {S : Type 0} {means : S → Meaning} {steps : S → Request → Answer 
       }
 
   pub at_least_a_row : (since : ℕ) (c : Machine S) → Soon since c → since < latest_boundary (means start)
-  unfolding ending
+  unfolding within
   at_least_a_row since c near = by near.rows refl
     where
       by : (n : ℕ) → near.rows ≡ n → since < latest_boundary (means start)
-      by zero e = absurd (subst (λ n. T (ending n near.touch c.processor.state.row)) e near.path)
+      by zero e = absurd (subst (λ n. T (within n near.touch c.processor.state.row)) e near.path)
       by (suc n) e = omega (arith, near.near)

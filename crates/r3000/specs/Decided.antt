@@ -1,4 +1,4 @@
--- A core on a memory whose meaning decides how it goes on: its after_cycles, by a function. Assumes nothing.
+-- A core on a memory whose meaning decides how it goes on: its cycles, by a function. Assumes nothing.
 use Rattle.std.specs.Prelude.{◌≡◌, ℕ, zero, suc, Some, None, Option}
 use Rattle.bus.specs.Decided.{IsDecided}
 use Rattle.bus.specs.Meaning.{Meaning, answer}
@@ -30,7 +30,7 @@ module _ (next : Meaning → Request → Meaning) where
       let a : Option Answer = cycle_answer c.pile (next_request c) in
       core_meaning (λ m. m) (core_after_cycle (is_wait a) a (meaning_after_cycle c.pile (next_request c)) c)
 
-  -- so many after_cycles, one after another
+  -- so many cycles, one after another
   abbrev pub after_cycles : ℕ → Machine Meaning → Machine Meaning
   after_cycles zero c = c
   after_cycles (suc n) c = after_one_cycle (after_cycles n c)

@@ -6,7 +6,7 @@ use Rattle.r3000.specs.declared.report.Report.{Report}
 use Rattle.rows.specs.Rows.{row_at}
 use Rattle.rows.specs.declared.row.Row.{Row}
 
--- what a core has behind it: the lines that stood at each is_boundary, the newest first, and the granted cycles since
+-- what a core has behind it: the lines that stood at each boundary, the newest first, and the granted cycles since
 -- the last
 pub record History : Type 0 where
   pub lines : List ℕ
@@ -40,15 +40,15 @@ core_at_power_up pile =
       observed = record { report = zero_counts; history = no_history };
     }
 
--- the row at current_row
+-- the row at hand
 abbrev pub current_row : State → Row
 current_row c = row_at c.row
 
--- a is_boundary is the end of an unfrozen cycle whose row ends a path
+-- a boundary is the end of an unfrozen cycle whose row ends a path
 abbrev pub is_boundary : State → Bool → Bool
 is_boundary c frozen = not frozen && ends (current_row c).sequencing
 
--- the history after a cycle: a is_boundary keeps the lines that stand, and the granted cycles are report_after anew
+-- the history after a cycle: a boundary keeps the lines that stand, and the granted cycles are counted anew
 abbrev pub history_after : Cpu → Bool → History → History
 history_after p frozen h =
     cond (is_boundary p.state frozen) (record { lines = p.lines ∷ h.lines; since = 0 })

@@ -44,7 +44,7 @@ module _ {S : Type 0} (means : S → Meaning) (steps : S → Request → Answer 
         × MakesCall c x.call r b
         × says b × MakesCalls b xs ys d
 
--- calls on a core that was core_at_power_up on a pile: at power-up, after each call, and after each cycle inside a
+-- calls on a core that was built on a pile: at power-up, after each call, and after each cycle inside a
 -- run, the promise holds
 pub record Performs {S : Type 0} (means : S → Meaning) (steps : S → Request → Answer → S → Type 0)
     (start : S) (before after : List Exchange) (c : Machine S) : Type 0 where

@@ -5,7 +5,7 @@ use Rattle.book.specs.Length.{length_of}
 use Rattle.bus.specs.Meaning.{Meaning}
 use Rattle.bus.specs.declared.request.Answer.{Answer}
 use Rattle.bus.specs.declared.request.Request.{Request}
-use Rattle.microprogram.specs.Bounds.{most_accesses, most_rows}
+use Rattle.microprogram.specs.Bounds.{path_budget}
 use Rattle.microprogram.specs.Cycle.{State}
 use Rattle.machine.specs.Registers.{reg}
 use Rattle.machine.specs.declared.fault.Fault.{Fault}
@@ -23,7 +23,7 @@ abbrev pub book_after : Meaning → List ℕ → Book
 book_after m [] = begun m.byte
 book_after m (l ∷ ls) = step (refusals m) l (book_after m ls)
 
--- the book's total_length of these steps, together
+-- the book's lengths of these steps, together
 abbrev pub total_length : Meaning → List ℕ → ℕ
 total_length m [] = 0
 total_length m (l ∷ ls) = total_length m ls + length_of (book_after m ls) (book_after m ls).event
@@ -35,10 +35,10 @@ pub record Agrees (b : Book) (s : State) (m : Meaning) : Type 0 where
   pub ledger : s.ledger ≡ b.ledger
   pub bytes : (address : ℕ) → m.byte address ≡ b.bytes address
 
--- the granted cycle with which the next boundary comes at the latest_boundary, counted from the one before or from
+-- the granted cycle with which the next boundary comes at the latest, counted from the one before or from
 -- power-up: 7 + 2 W
 abbrev pub latest_boundary : Meaning → ℕ
-latest_boundary m = most_rows + most_accesses * m.longest
+latest_boundary m = path_budget.rows + path_budget.accesses * m.longest
 
 -- whether a flag is up
 abbrev pub IsUp : State → Fault → Type 0
@@ -54,7 +54,7 @@ pub record Promise {S : Type 0} (means : S → Meaning) (start : S) (c : Machine
   -- sum
   pub sum : c.observed.report.cycles
       ≡ c.observed.report.frozen + total_length (means start) c.observed.history.lines + c.observed.report.place
-  -- promptness: the latest_boundary granted cycle after a boundary, or after power-up, is not made without a boundary
+  -- promptness: the latest granted cycle after a boundary, or after power-up, is not made without a boundary
   pub promptness : c.observed.history.since < latest_boundary (means start)
   -- register 0 is zero, and at most one flag is up (of which the flag's type leaves no more)
   pub register_0 : reg c.processor.state.regs 0 ≡ 0

@@ -1,4 +1,4 @@
--- As many bytes of a job as tell that it is too long tell its replies_to_lines. Assumes nothing.
+-- As many bytes of a job as tell that it is too long tell its replies. Assumes nothing.
 use Rattle.std.proofs.Common.{◌≡◌, ℕ, ◌<◌, Bool, true, false, cond, List, [], ◌∷◌, length, take, ltb, refl, arith}
 use Rattle.std.proofs.lemmas.Bool.{ltb-false, ltb-true, lt-ltb}
 use Rattle.std.proofs.lemmas.List.{length-take, take_all}

@@ -1,4 +1,4 @@
--- The value of a field, digit_value after digit_value. Assumes nothing.
+-- The value of a field, digit after digit. Assumes nothing.
 use Rattle.std.proofs.Common.{◌≡◌, ℕ, zero, suc, ◌+◌, ◌*◌, ◌%◌, ◌^◌, ◌<◌, ◌≤◌, List, [], ◌∷◌, length, map, sym, ap}
 use Rattle.std.proofs.Common.{◌∙◌, mul_assoc, arith}
 use native.Mathlib.Nat.{pow-succ'}
@@ -7,11 +7,11 @@ use Rattle.std.proofs.lemmas.Bool.Decides.{nat_tests}
 use Rattle.std.specs.List.{fold}
 use Rattle.text.specs.Line.{digit_value, value_of}
 
--- a digit_value behind a value
+-- a digit behind a value
 abbrev pub appended : ℕ → ℕ → ℕ
 appended v d = (v * 16 % 2 ^ 32 + d) % 2 ^ 32
 
--- a digit_value moves from the front of a field to the end of the value before it
+-- a digit moves from the front of a field to the end of the value before it
 moved : (v d p q t : ℕ) → q ≡ 16 * p → v * q + (d * p + t) ≡ (v * 16 + d) * p + t
 moved v d p q t e = omega (arith, add-mul (v * 16) d p, mul_assoc v 16 p, ap (λ x. v * x) e)
 

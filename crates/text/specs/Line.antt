@@ -16,7 +16,7 @@ use Rattle.text.specs.declared.order.Order.TheVariants as order
 abbrev pub fields_of : List ℕ → List (List ℕ)
 fields_of line = slice_split (λ b. b == space) line
 
--- whether a byte is a digit_value
+-- whether a byte is a digit
 abbrev pub is_digit : ℕ → Bool
 is_digit b = is_some (digit_of b)
 
@@ -24,7 +24,7 @@ is_digit b = is_some (digit_of b)
 abbrev pub is_in_form : List ℕ → Bool
 is_in_form f = nat_lt 0 (length f) && list_all is_digit f
 
--- the value of a digit_value
+-- the value of a digit
 abbrev pub digit_value : ℕ → ℕ
 digit_value b = unwrap_or (digit_of b) 0
 

@@ -12,15 +12,15 @@ use Rattle.text.specs.declared.reply.Reply.TheVariants.{Loaded, Started, Set, Ra
 abbrev pub reply_where_fit : List ℕ → List (List ℕ) → Reply → Option Reply
 reply_where_fit ws fs r = cond (fields_fit ws fs) (Some r) None
 
--- the field_value of a field behind the code, the first being field 0
+-- the value of a field behind the code, the first being field 0
 abbrev pub field_value : List (List ℕ) → ℕ → ℕ
 field_value fs n = slice_index (map value_of fs) n
 
--- the counts_reply that three fields tell
+-- the counts that three fields tell
 abbrev pub counts_reply : List (List ℕ) → Reply
 counts_reply fs = Ran (record { cycles = field_value fs 0; frozen = field_value fs 1; boundaries = field_value fs 2 })
 
--- the denial_of_fields that three fields tell
+-- the denial that three fields tell
 abbrev pub denial_of_fields : List (List ℕ) → Reply
 denial_of_fields fs =
     Denied (record { number = field_value fs 0; line = field_value fs 1; address = field_value fs 2 })

@@ -38,7 +38,7 @@ reply_fields (Ran n) = code_field (code_of kind.Run) ∷ fields_of_counts n
 reply_fields (Shown r w) = code_field (code_of kind.Show) ∷ (byte_width, r) ∷ (word_width, w) ∷ []
 reply_fields (Denied d) = code_field denial_code ∷ fields_of_denial d
 
--- fields separated_fields by single spaces
+-- fields parted by single spaces
 abbrev pub separated_fields : List Field → List ℕ
 separated_fields [] = []
 separated_fields (f ∷ []) = digits f.0 f.1

@@ -104,7 +104,7 @@ module _ {m p : Meaning} {address to : ℕ} where
   same_after y h x x' here there =
       rw (h.waits, same_refused y h, same_byte y h x x' here there, same_written y h x x' here there)
 
--- an address of the layer that stands for x' below, before and byte_after the request
+-- an address of the layer that stands for x' below, before and after the request
 pub record Stands (m m' p p' : Meaning) (address to x x' : ℕ) : Type 0 where
   pub before : m.byte x ≡ p.byte x'
   pub after : m'.byte x ≡ p'.byte x'
@@ -120,7 +120,7 @@ pub record Beside (m m' : Meaning) (address x : ℕ) : Type 0 where
 abbrev pub Seen : (m m' p p' : Meaning) (address to x : ℕ) → Type 0
 Seen m m' p p' address to x = ((x' : ℕ) × Stands m m' p p' address to x x') ⊎ Beside m m' address x
 
--- a layer before and byte_after it handed a request on from an address to another
+-- a layer before and after it handed a request on from an address to another
 pub record HandsOn (m m' p p' : Meaning) (address : ℕ) (y : Action) (to : ℕ) (a : Answer) : Type 0 where
   pub through : Through m p address y to
   pub seen : (x : ℕ) → Seen m m' p p' address to x

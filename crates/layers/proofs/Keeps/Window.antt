@@ -45,7 +45,7 @@ module _ (base limit address : ℕ) where
   below : address < limit_address limit → (x : ℕ) → word_of x ≡ word_of address → nat_lt x (limit_address limit) ≡ true
   below l x e = lt-ltb x (limit_address limit) (omega arith)
 
-  -- words are at_address whole
+  -- words are moved whole
   moves : (x : ℕ) → word_of (address_below base x) ≡ address_below base (word_of x)
   moves x = omega arith
 

@@ -8,7 +8,7 @@ use Rattle.jobs.proofs.Promised.{promised}
 use Rattle.jobs.proofs.station.Station.heed.Goals as goal
 use Rattle.jobs.proofs.station.Station.heed.Goals.{in-Err, in-Ok}
 
--- a denial_reply takes the place of a reply
+-- a denial takes the place of a reply
 replied : (n : ℕ) (r : Reply) (q : Result Reply JobFault) → MatchResult q (λ x. r ≡ x) (λ f. r ≡ denial_reply n f)
     → line_replies n q ≡ r ∷ []
 replied n r (Ok x) h = cc

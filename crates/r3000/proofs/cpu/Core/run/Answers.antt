@@ -12,7 +12,7 @@ use Rattle.r3000.proofs.Parts.{report_of}
 use Rattle.r3000.proofs.Upheld.{Anything, runs, stays}
 use Rattle.r3000.proofs.cpu.Core.run.Goals as goal
 
--- so many cycles are report_after as so many
+-- so many cycles are counted as so many
 one_more : (frozen last : Bool) (n : Report) → (report_after frozen last n).cycles ≡ n.cycles + 1
 one_more true last n = refl
 one_more false true n = refl
