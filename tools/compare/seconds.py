@@ -1,12 +1,11 @@
 """The seconds of each crate's check, from nothing.
 
 `rt check` begins with what checks in other checkouts on the machine kept, in a folder beside the kit. So the check is run by a
-kit of its own: copies of its scripts, and links to all else, in a new folder, where nothing is kept. `rt` says how many modules
-of the crate it took from elsewhere: where it is not 0, the time would be worth nothing, and the work stops.
+kit of its own: copies of its scripts, and links to all else, in a new folder, where nothing is kept. `rt` says where it begins
+with what a check kept: then the time would be worth nothing, and the work stops.
 """
 
 import os
-import re
 import shutil
 import subprocess
 import sys
@@ -15,6 +14,8 @@ import time
 
 from .report import table
 from .snapshot import Unreadable, archive
+
+KEPT = "begins with what a check kept"
 
 
 def dependencies(folder):
@@ -79,9 +80,8 @@ def timed(commit, only):
             begun = time.monotonic()
             said = run(rt, "check", crate, f"{folder}/repository")
             seconds[crate] = time.monotonic() - begun
-            taken = re.search(rf"^crate {crate}: modules loaded=(\d+)", said, re.M)
-            if not taken or taken.group(1) != "0":
-                raise Unreadable(f"rt check in {crate} did not begin from nothing, or does not say so")
+            if KEPT in said:
+                raise Unreadable(f"rt check in {crate} did not begin from nothing")
             print(f"{commit[:7]} {crate}: {seconds[crate]:.0f} s", file=sys.stderr)
             if os.path.exists(f"{folder}/repository/crates/{crate}/src/lib.rt"):
                 run(rt, "lib", crate, f"{folder}/repository")
