@@ -119,12 +119,12 @@ def cut(job):
     return lines[:-1] if lines[-1] == b"" else lines
 
 
-def replies(job, watch=None):
+def replies(job, at_work=None):
     """The replies to a job, one by one."""
     if len(job) > LONGEST:
         yield "FF 01 00000000 00000000"
         return
-    at_work = Job(watch)
+    at_work = at_work or Job()
     for number, line in enumerate(cut(job), 1):
         try:
             yield at_work.answer(line)
