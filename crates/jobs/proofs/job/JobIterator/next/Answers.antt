@@ -30,6 +30,6 @@ pub returns-clause-steps : goal.returns-clause-steps
 returns-clause-steps g c =
     let x = c.args.self.now in
     gives_line c.settles_as_decided.ensures c.cycles_as_decided.ensures c.promise.ensures x _ c.in_ok-take.field-0
-    c.heed-station.result.0 c.in_ok-line.line.now c.heed-station.result.1
+    c.answer_line-station.result.0 c.in_ok-line.line.now c.answer_line-station.result.1
     (sym c.take.ensures.value ∙ c.in_default.is) (sym c.take-2.ensures.value ∙ c.in_ok-take.was)
-    c.in_ok-line.ensures.steps c.take.ensures.after refl refl refl c.heed-station.ensures
+    c.in_ok-line.ensures.steps c.take.ensures.after refl refl refl c.answer_line-station.ensures

@@ -1,7 +1,7 @@
 use Rattle.std.proofs.Common.{length, eqb, ap, arith, rules}
 use Rattle.std.proofs.lemmas.List.Sorted.{answers_always}
 use Rattle.jobs.proofs.Lines.{next_line}
-use Rattle.jobs.proofs.cut.LinesIterator.next.Goals as goal
+use Rattle.jobs.proofs.text_lines.TextLinesIterator.next.Goals as goal
 
 pub returns-clause-steps : goal.returns-clause-steps
 returns-clause-steps c =

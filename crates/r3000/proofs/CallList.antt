@@ -7,7 +7,7 @@ use Rattle.bus.specs.declared.request.Request.{Request}
 use Rattle.r3000.specs.Calls.{WhereGranted, Runs, check_run}
 use Rattle.r3000.specs.Cycle.{Cycles}
 use Rattle.r3000.specs.Machine.{Machine}
-use Rattle.r3000.specs.Played.{MakesCall, MakesCalls}
+use Rattle.r3000.specs.CallList.{MakesCall, MakesCalls}
 use Rattle.r3000.specs.Promise.{IsPromised, Upholds}
 use Rattle.r3000.specs.Reached.{IsReached}
 use Rattle.r3000.specs.declared.call.Call.{Call}

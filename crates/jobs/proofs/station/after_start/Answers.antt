@@ -12,8 +12,8 @@ use Rattle.text.specs.declared.reply.Reply.{Reply}
 use Rattle.text.specs.declared.reply.Reply.TheVariants as reply
 use Rattle.r3000.specs.declared.denial.Denial.{Denial}
 use Rattle.jobs.proofs.Late.{called, denied, runs, sets, shows}
-use Rattle.jobs.proofs.station.late.Given as given
-use Rattle.jobs.proofs.station.late.Goals as goal
+use Rattle.jobs.proofs.station.after_start.Given as given
+use Rattle.jobs.proofs.station.after_start.Goals as goal
 
 module _ (g : given.Over) (b d : Machine g.row.B.Denot) where
   abbrev Obeyed : Order → Result Reply JobFault → Type 0
@@ -38,28 +38,28 @@ returns-in-Load g c h =
       λ start r. record { reached = r; promise = c.promise.ensures start here r },
     )
 
-pub returns-in_err-lines-in-Lines : goal.returns-in_err-lines-in-Lines
-returns-in_err-lines-in-Lines g c h =
-    let call = c.in_err-lines-in-Lines.ensures in
+pub returns-in_err-lines-in-SetLines : goal.returns-in_err-lines-in-SetLines
+returns-in_err-lines-in-SetLines g c h =
+    let call = c.in_err-lines-in-SetLines.ensures in
     let done = call.core h in
     let before = machine_of h c.args.core.now in
     let after = machine_of done.0 c.lines.new.self in (
       done.0,
-      answered g before after _ _ _ _ c.in-Lines.is
-          (denied (λ u. reply.Set) (lines_reply c.in-Lines.lines) _ _ c.from_residual.ensures.1 call.reply)
-          (sets g.B.Bus.means g.B.Bus.steps before after c.in-Lines.lines _ refl done.1),
+      answered g before after _ _ _ _ c.in-SetLines.is
+          (denied (λ u. reply.Set) (lines_reply c.in-SetLines.lines) _ _ c.from_residual.ensures.1 call.reply)
+          (sets g.B.Bus.means g.B.Bus.steps before after c.in-SetLines.lines _ refl done.1),
       done.2,
     )
 
-pub returns-in_ok-lines-in-Lines : goal.returns-in_ok-lines-in-Lines
-returns-in_ok-lines-in-Lines g c h =
-    let call = c.in_ok-lines-in-Lines.ensures in
+pub returns-in_ok-lines-in-SetLines : goal.returns-in_ok-lines-in-SetLines
+returns-in_ok-lines-in-SetLines g c h =
+    let call = c.in_ok-lines-in-SetLines.ensures in
     let done = call.core h in
     let before = machine_of h c.args.core.now in
     let after = machine_of done.0 c.lines.new.self in (
       done.0,
-      answered g before after _ _ _ _ c.in-Lines.is refl
-          (sets g.B.Bus.means g.B.Bus.steps before after c.in-Lines.lines _ call.reply done.1),
+      answered g before after _ _ _ _ c.in-SetLines.is refl
+          (sets g.B.Bus.means g.B.Bus.steps before after c.in-SetLines.lines _ call.reply done.1),
       done.2,
     )
 
@@ -91,7 +91,7 @@ returns-in_ok-run-in-Run g c h =
     (Ok c.in_ok-run-in-Run.field-0) after) c.from.ensures done.1
     in (
       done.0,
-      answered g before after _ _ _ _ c.in-Run.is (ap Ok c.ran.ensures)
+      answered g before after _ _ _ _ c.in-Run.is (ap Ok c.run_reply.ensures)
           (runs g.B.Bus.means g.B.Bus.steps before after c.in-Run.count _ ran),
       done.2,
     )

@@ -5,8 +5,8 @@ use Rattle.jobs.specs.Station.{StageIsPromised, StageIsReached, stage_of_station
 use Rattle.jobs.specs.declared.fault.JobFault.{JobFault}
 use Rattle.text.specs.declared.reply.Reply.{Reply}
 use Rattle.jobs.proofs.Promised.{promised}
-use Rattle.jobs.proofs.station.Station.heed.Goals as goal
-use Rattle.jobs.proofs.station.Station.heed.Goals.{in-Err, in-Ok}
+use Rattle.jobs.proofs.station.Station.answer_line.Goals as goal
+use Rattle.jobs.proofs.station.Station.answer_line.Goals.{in-Err, in-Ok}
 
 -- a denial takes the place of a reply
 replied : (n : ℕ) (r : Reply) (q : Result Reply JobFault) → MatchResult q (λ x. r ≡ x) (λ f. r ≡ denial_reply n f)
@@ -20,7 +20,7 @@ returns g c s h =
     let said = replied n c.unwrap_or_else.result c.match-read.station.1 (search rules) in
     elim c.match-read.branch [
       | in-Ok w ↦ (
-          let done = w.obey.ensures s h in (
+          let done = w.do_order.ensures s h in (
             done.0,
             done.1,
             subst₂
@@ -29,7 +29,7 @@ returns g c s h =
                 (subst
                 (λ e. AnswersLine g.B.Bus.means g.B.Bus.steps (stage_of_station s h c.args.self) n
                 (Ok w.in-Ok.order) (line_replies n e.1) (stage_of_station done.0 done.1 e.0)) (sym w.station-is)
-                (w.obey.result.1, done.2, refl)),
+                (w.do_order.result.1, done.2, refl)),
             subst
                 (λ e. StageIsReached g.B.Bus.means g.B.Bus.steps (stage_of_station s h c.args.self)
                 → StageIsPromised g.B.Bus.means g.B.Bus.steps (stage_of_station done.0 done.1 e.0)) (sym w.station-is)

@@ -7,9 +7,9 @@ ghost use Rattle.jobs.specs.Job.{text_lines_of};
 
 /// The lines that are still to come of a job, each without the byte that ends it.
 #[derive(Drop)]
-pub struct Lines<'a>(pub &'a [u8]);
+pub struct TextLines<'a>(pub &'a [u8]);
 
-impl<'a> Iterator for Lines<'a> {
+impl<'a> Iterator for TextLines<'a> {
     type Item = &'a [u8];
 
     ghost next_gives = { YieldsFirstRef (λ s. text_lines_of s.0.now) };
