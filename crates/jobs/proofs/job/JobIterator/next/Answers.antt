@@ -20,11 +20,11 @@ returns-in_err-line-clause-steps g c =
 pub returns-in_err-take-clause-steps : goal.returns-in_err-take-clause-steps
 returns-in_err-take-clause-steps g c =
     let x = c.args.self.now in
-    let gone : x.pile ≡ None = sym c.take-2.ensures.value ∙ c.in_err-take.was in
+    let no_pile : x.pile ≡ None = sym c.take-2.ensures.value ∙ c.in_err-take.was in
     gives_none c.settles_as_decided.ensures c.cycles_as_decided.ensures c.promise.ensures x _ _
     c.from_residual-in_err-take.ensures (sym c.take.ensures.value ∙ c.in_default.is) c.take.ensures.after
-    (c.take-2.ensures.after ∙ sym gone) refl refl
-    (ap (λ o. lines_left o x.lines.0.now) gone) (ap (λ o. lines_left o c.next.new.self.0.now) c.take-2.ensures.after)
+    (c.take-2.ensures.after ∙ sym no_pile) refl refl
+    (ap (λ o. lines_left o x.lines.0.now) no_pile) (ap (λ o. lines_left o c.next.new.self.0.now) c.take-2.ensures.after)
 
 pub returns-clause-steps : goal.returns-clause-steps
 returns-clause-steps g c =
