@@ -1,8 +1,11 @@
--- The one test over all rows, computed. Assumes nothing.
-use Rattle.std.proofs.Common.{◌≡◌, ℕ, zero, suc, ◌<◌, Bool, true, false, ◌&&◌, T, ◌⊎◌, inl, inr, arith}
-use Rattle.std.proofs.lemmas.Bool.{cases_eq}
-use Rattle.rows.specs.Rows.{rows}
-use Rattle.microprogram.specs.Bounds.{RowsEnd, ending, sound, sound_below}
+-- The one test over all rows, computed, and that no smaller budget passes it. Assumes nothing.
+use Rattle.std.proofs.Common.{◌≡◌, ℕ, zero, suc, ◌+◌, ◌-◌, ◌<◌, ◌≤◌, Bool, true, false, ◌&&◌, T, ltb, leb, List, [], ◌∷◌, ◌⊎◌, refl, subst, inl, inr, Contains, arith}
+use Rattle.std.proofs.lemmas.Bool.{cases_eq, leb-true, true≢false}
+use Rattle.rows.specs.Rows.{row_at, rows}
+use Rattle.microprogram.specs.Bounds.{IsLeast, RowsEnd, accesses, all, path_budget, sound, successors, within}
+use Rattle.microprogram.specs.Cycle.{ends}
+use Rattle.microprogram.specs.declared.bounds.Budget.{Budget}
+use Rattle.microprogram.proofs.Successors.{among}
 
 left : (a b : Bool) → T (a && b) → T a
 left true b h = tt
@@ -12,18 +15,89 @@ right : (a b : Bool) → T (a && b) → T b
 right true b h = h
 right false b h = absurd h
 
-at : (bound m n : ℕ) → n < m → T (sound_below bound m) → T (sound bound n)
+unfoldable sound_below : Budget → ℕ → Bool
+sound_below b zero = true
+sound_below b (suc n) = sound b n && sound_below b n
+
+at : (b : Budget) (m n : ℕ) → n < m → T (sound_below b m) → T (sound b n)
 unfolding sound_below
-at bound zero n h t = absurd (omega arith)
-at bound (suc m) n h t = go (cases_eq n m) (left (sound bound m) (sound_below bound m) t) (λ l. at bound m n l (right (sound bound m) (sound_below bound m) t))
+at b zero n h t = absurd (omega arith)
+at b (suc m) n h t = go (cases_eq n m) (left (sound b m) (sound_below b m) t) (λ l. at b m n l (right (sound b m) (sound_below b m) t))
   where
-    go : (n ≡ m) ⊎ (n ≡ m → ⊥) → T (sound bound m) → (n < m → T (sound bound n)) → T (sound bound n)
+    go : (n ≡ m) ⊎ (n ≡ m → ⊥) → T (sound b m) → (n < m → T (sound b n)) → T (sound b n)
     go (inl e) this those = rw e this
     go (inr e) this those = those (omega arith)
 
-tested : T (sound_below 7 1024)
-unfolding sound_below ending rows
+tested : T (sound_below path_budget 1024)
+unfolding sound_below within rows
 tested = tt
 
-pub rows_end : RowsEnd 7
-rows_end n h = at 7 1024 n h tested
+pub rows_end : RowsEnd path_budget
+rows_end n h = at path_budget 1024 n h tested
+
+-- a row is one row of the budget
+some : (r touch n : ℕ) → T (within r touch n) → 0 < r
+unfolding within
+some zero touch n h = absurd h
+some (suc r) touch n h = omega arith
+
+true_test : (b : Bool) → T b → b ≡ true
+true_test true h = refl
+true_test false h = absurd h
+
+-- its accesses are within the budget
+enough : (r touch n : ℕ) → T (within r touch n) → accesses (row_at n).transfer ≤ touch
+unfolding within
+enough zero touch n h = absurd h
+enough (suc r) touch n h = leb-true _ _ (true_test _ (left (leb (accesses (row_at n).transfer) touch) _ h))
+
+apart : (e b : Bool) → T (elim e [ true ↦ true | false ↦ b ]) → e ≡ false → T b
+apart true b h e = absurd (true≢false e)
+apart false b h e = h
+
+-- what all numbers of a list pass each of them passes
+each : (p : ℕ → Bool) (ns : List ℕ) (n : ℕ) → Contains ns n → T (all p ns) → T (p n)
+each p [] n c h = absurd (omega (arith, c.1))
+each p (m ∷ ms) n (zero, l, e) h = subst (λ k. T (p k)) e (left (p m) (all p ms) h)
+each p (m ∷ ms) n (suc k, l, e) h = each p ms n (k, omega arith, e) (right (p m) (all p ms) h)
+
+-- and what it leaves of the budget is enough for each row that can follow
+on : (r touch n m : ℕ) → T (within r touch n) → ends (row_at n).sequencing ≡ false
+    → Contains (successors (row_at n).sequencing (row_at n).amic) m
+    → (k : ℕ) × (r ≡ k + 1) × T (within k (touch - accesses (row_at n).transfer) m)
+unfolding within
+on zero touch n m h e c = absurd h
+on (suc k) touch n m h e c = (
+  k,
+  omega arith,
+  each (within k (touch - accesses (row_at n).transfer)) (successors (row_at n).sequencing (row_at n).amic) m c
+      (apart (ends (row_at n).sequencing) _ (right (leb (accesses (row_at n).transfer) touch) _ h) e),
+)
+
+passes : (b : Budget) → RowsEnd b → (n : ℕ) → n < 1024 → T (within b.rows b.accesses n)
+passes b h n l = right (all (λ k. ltb k 1024) (successors (row_at n).sequencing (row_at n).amic)) _ (h n l)
+
+-- a branch with a link that is taken: init, bcond, bltzal, bltz, branch-e, branch, ifetch-e
+seven : (b : Budget) → RowsEnd b → 7 ≤ b.rows
+unfolding rows
+seven b h =
+    let one = on b.rows b.accesses 16 260 (passes b h 16 (omega arith)) refl (among 256 4 64 1 (omega arith) 260 refl) in
+    let two = on one.0 _ 260 194 one.2 refl (among 192 1 4 2 (omega arith) 194 refl) in
+    let three = on two.0 _ 194 192 two.2 refl (0, omega arith, refl) in
+    let four = on three.0 _ 192 38 three.2 refl (among 36 1 4 2 (omega arith) 38 refl) in
+    let five = on four.0 _ 38 31 four.2 refl (0, omega arith, refl) in
+    let six = on five.0 _ 31 15 five.2 refl (0, omega arith, refl) in
+    let last : 0 < six.0 = some six.0 _ 15 six.2 in
+    omega (arith, one.1, two.1, three.1, four.1, five.1, six.1, last)
+
+-- a load, and the fetch behind it
+two_accesses : (b : Budget) → RowsEnd b → 2 ≤ b.accesses
+unfolding rows
+two_accesses b h =
+    let load : 1 ≤ b.accesses = enough b.rows b.accesses 397 (passes b h 397 (omega arith)) in
+    let behind = on b.rows b.accesses 397 398 (passes b h 397 (omega arith)) refl (0, omega arith, refl) in
+    let fetch : 1 ≤ b.accesses - 1 = enough behind.0 (b.accesses - 1) 398 behind.2 in
+    omega (arith, load, fetch)
+
+pub least : IsLeast path_budget
+least = record { rows = seven; accesses = two_accesses }

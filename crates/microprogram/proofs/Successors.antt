@@ -7,7 +7,7 @@ use Rattle.rows.specs.declared.row.Sequencing.TheVariants as s
 use Rattle.microprogram.specs.Bounds.{RowsListed, spread}
 
 -- a spread has each of its numbers
-among : (from by n k : ℕ) → k < n → (m : ℕ) → m ≡ from + k * by → Contains (spread from by n) m
+pub among : (from by n k : ℕ) → k < n → (m : ℕ) → m ≡ from + k * by → Contains (spread from by n) m
 among from by zero k l m e = absurd (omega arith)
 among from by (suc n) zero l m e = (0, omega arith, sym (omega arith))
 among from by (suc n) (suc k) l m e = later (among (from + by) by n k (omega arith) m (omega (arith, suc-mul k by)))

@@ -1,5 +1,5 @@
 -- How the rows hang together: one test over all of them, and what it says. Assumes nothing.
-use Rattle.std.specs.Prelude.{ℕ, zero, suc, ◌+◌, ◌-◌, ◌*◌, ◌/◌, ◌<◌, Bool, true, false, ◌&&◌, T, List, [], ◌∷◌, nat_le, nat_lt, Contains}
+use Rattle.std.specs.Prelude.{ℕ, zero, suc, ◌+◌, ◌-◌, ◌*◌, ◌/◌, ◌<◌, ◌≤◌, Bool, true, false, ◌&&◌, T, List, [], ◌∷◌, nat_le, nat_lt, Contains}
 use Rattle.machine.specs.Registers.{Regs}
 use Rattle.rows.specs.Rows.{row_at}
 use Rattle.rows.specs.declared.row.Sequencing.{Sequencing}
@@ -7,6 +7,7 @@ use Rattle.rows.specs.declared.row.Sequencing.TheVariants as s
 use Rattle.rows.specs.declared.row.Transfer.{Transfer}
 use Rattle.rows.specs.declared.row.Transfer.TheVariants as m
 use Rattle.microprogram.specs.Cycle.{ends, following}
+use Rattle.microprogram.specs.declared.bounds.Budget.{Budget}
 
 -- the numbers from, from + by, .. , so many of them
 abbrev pub spread : ℕ → ℕ → ℕ → List ℕ
@@ -38,32 +39,36 @@ all p [] = true
 all p (n ∷ ns) = p n && all p ns
 
 -- every way on from a row comes to the end of its path within so many rows, itself counted, and so many accesses
-unfoldable pub ending : ℕ → ℕ → ℕ → Bool
-ending zero touch n = false
-ending (suc rows) touch n =
+unfoldable pub within : ℕ → ℕ → ℕ → Bool
+within zero touch n = false
+within (suc rows) touch n =
     nat_le (accesses (row_at n).transfer) touch
-    && elim (ends (row_at n).sequencing) [ true ↦ true | false ↦ all (ending rows (touch - accesses (row_at n).transfer)) (successors (row_at n).sequencing (row_at n).amic) ]
+    && elim (ends (row_at n).sequencing) [
+      | true ↦ true
+      | false ↦ all (within rows (touch - accesses (row_at n).transfer)) (successors (row_at n).sequencing (row_at n).amic)
+    ]
 
--- how many rows a path has at most, and how many accesses they make
-abbrev pub most_rows : ℕ
-most_rows = 7
+-- the same of a budget
+abbrev pub ending : Budget → ℕ → Bool
+ending b n = within b.rows b.accesses n
 
-abbrev pub most_accesses : ℕ
-most_accesses = 2
+-- the test of one row: its successors are rows, and every way on from it ends within the budget
+abbrev pub sound : Budget → ℕ → Bool
+sound b n = all (λ k. nat_lt k 1024) (successors (row_at n).sequencing (row_at n).amic) && ending b n
 
--- the test of one row: its successors are rows, and it ends within so many rows and the most accesses
-abbrev pub sound : ℕ → ℕ → Bool
-sound bound n =
-    all (λ k. nat_lt k 1024) (successors (row_at n).sequencing (row_at n).amic) && ending bound most_accesses n
-
-unfoldable pub sound_below : ℕ → ℕ → Bool
-sound_below bound zero = true
-sound_below bound (suc n) = sound bound n && sound_below bound n
-
--- from every row at most so many rows, itself counted, lead to one that ends a path; at most two of them access memory;
+-- from every row at most so many rows, itself counted, lead to one that ends a path; at most so many of them access memory;
 -- and every row that is listed as its successor is one of the 1,024
-abbrev pub RowsEnd : ℕ → Type 0
-RowsEnd bound = (n : ℕ) → n < 1024 → T (sound bound n)
+abbrev pub RowsEnd : Budget → Type 0
+RowsEnd b = (n : ℕ) → n < 1024 → T (sound b n)
+
+-- what the test gives
+abbrev pub path_budget : Budget
+path_budget = record { rows = 7; accesses = 2 }
+
+-- no budget with fewer rows, and none with fewer accesses, passes the test
+pub record IsLeast (b : Budget) : Type 0 where
+  pub rows : (c : Budget) → RowsEnd c → b.rows ≤ c.rows
+  pub accesses : (c : Budget) → RowsEnd c → b.accesses ≤ c.accesses
 
 -- the row that follows is one of the listed successors, whatever the registers, the result, the lines and the flag
 abbrev pub RowsListed : Type 0

@@ -1,13 +1,24 @@
 //! That every path of rows is short.
 
 ghost use Rattle.std.specs.Prelude.{◌≡◌};
-ghost use Rattle.microprogram.specs.Bounds.{RowsEnd, RowsListed, most_rows};
+ghost use Rattle.microprogram.specs.Bounds.{IsLeast, RowsEnd, RowsListed, path_budget};
 
-/// A bound on the rows that a path can still have, its present one counted. Which rows can follow one is listed.
-pub fn longest_path() -> u8
-    ensures value { result ≡ most_rows }
+/// What a way to the end of a path may take: rows, the present one counted, and accesses to memory.
+#[derive(Clone, Copy)]
+pub struct Budget {
+    pub rows: u8,
+    pub accesses: u8,
+}
+
+/// The least budget within which every path comes to its end. Which rows can follow one is listed.
+pub fn longest_path() -> Budget
+    ensures value { result ≡ path_budget }
     ensures bounded { RowsEnd result }
+    ensures least { IsLeast result }
     ensures listed { RowsListed }
 {
-    7
+    Budget {
+        rows: 7,
+        accesses: 2,
+    }
 }

@@ -6,7 +6,7 @@ use Rattle.bus.specs.declared.request.Access.{Access}
 use Rattle.bus.specs.declared.request.Answer.{Answer}
 use Rattle.bus.specs.declared.request.Request.{Request}
 use Rattle.microprogram.specs.Cycle.{State, access, asked, ends, requested}
-use Rattle.microprogram.specs.Bounds.{accesses, all, ending, successors}
+use Rattle.microprogram.specs.Bounds.{accesses, all, successors, within}
 use Rattle.machine.specs.Registers.{Regs}
 use Rattle.machine.specs.declared.fault.Fault.{Fault}
 use Rattle.r3000.specs.Cycle.{Cycle}
@@ -46,8 +46,8 @@ abbrev touches : State → ℕ
 touches c = accesses (hand c).transfer
 
 -- the first row of an ending path makes no more accesses than the path
-first : (rows touch : ℕ) (c : State) → T (ending rows touch c.row) → touches c ≤ touch
-unfolding ending
+first : (rows touch : ℕ) (c : State) → T (within rows touch c.row) → touches c ≤ touch
+unfolding within
 first zero touch c h = absurd h
 first (suc rows) touch c h = leb-true _ _ (true_test _ (left (leb (touches c) touch) _ h))
 
@@ -56,9 +56,9 @@ apart true b h e = absurd (true≢false e)
 apart false b h e = h
 
 -- and the rest of the path is one row shorter
-rest : (rows touch : ℕ) (c : State) → T (ending rows touch c.row) → ends (hand c).sequencing ≡ false
-    → (n : ℕ) × (rows ≡ n + 1) × T (all (ending n (touch - touches c)) (successors (hand c).sequencing (hand c).amic))
-unfolding ending
+rest : (rows touch : ℕ) (c : State) → T (within rows touch c.row) → ends (hand c).sequencing ≡ false
+    → (n : ℕ) × (rows ≡ n + 1) × T (all (within n (touch - touches c)) (successors (hand c).sequencing (hand c).amic))
+unfolding within
 rest zero touch c h e = absurd h
 rest (suc rows) touch c h e = (rows, omega arith, apart (ends (hand c).sequencing) _ (right (leb (touches c) touch) _ h) e)
 
@@ -69,11 +69,11 @@ module _ {S : Type 0} {means : S → Meaning} {steps : S → Request → Answer 
     pub row : c.state.row < 1024
     pub rows : ℕ
     pub touch : ℕ
-    pub path : T (ending rows touch c.state.row)
+    pub path : T (within rows touch c.state.row)
     pub near : since + rows + ((touch - touches c.state) * (means start).longest + waiting (means c.pile) (asked (hand c.state) c.state)) ≤ 7 + 2 * (means start).longest
 
   -- a row that is come to
-  comes : (since : ℕ) (c : Machine S) → (means c.pile).longest ≡ (means start).longest → c.state.row < 1024 → (rows touch : ℕ) → T (ending rows touch c.state.row) → since + rows + touch * (means start).longest ≤ 7 + 2 * (means start).longest → Soon since c
+  comes : (since : ℕ) (c : Machine S) → (means c.pile).longest ≡ (means start).longest → c.state.row < 1024 → (rows touch : ℕ) → T (within rows touch c.state.row) → since + rows + touch * (means start).longest ≤ 7 + 2 * (means start).longest → Soon since c
   comes since c longest row rows touch path near =
       record {
         longest = longest;
@@ -117,7 +117,7 @@ module _ {S : Type 0} {means : S → Meaning} {steps : S → Request → Answer 
         row = subst (λ s. s.row < 1024) (sym same) near.row;
         rows = near.rows;
         touch = near.touch;
-        path = subst (λ s. T (ending near.rows near.touch s.row)) (sym same) near.path;
+        path = subst (λ s. T (within near.rows near.touch s.row)) (sym same) near.path;
         near =
             subst (λ s. since + 1 + near.rows + ((near.touch - touches s) * (means start).longest + waiting (means d.pile) (asked (hand s) s)) ≤ 7 + 2 * (means start).longest) (sym same)
             (omega (arith, near.near));
@@ -127,10 +127,10 @@ module _ {S : Type 0} {means : S → Meaning} {steps : S → Request → Answer 
   soon_on : (since : ℕ) (c d : Machine S) → Cycle steps c false d → ends (hand c.state).sequencing ≡ false → Soon since c → Soon (since + 1) d
   soon_on since c d h e near = go (rest near.rows near.touch c.state near.path e)
     where
-      go : (n : ℕ) × (near.rows ≡ n + 1) × T (all (ending n (near.touch - touches c.state)) (successors (hand c.state).sequencing (hand c.state).amic)) → Soon (since + 1) d
+      go : (n : ℕ) × (near.rows ≡ n + 1) × T (all (within n (near.touch - touches c.state)) (successors (hand c.state).sequencing (hand c.state).amic)) → Soon (since + 1) d
       go r =
           comes (since + 1) d (stays since c d false h near) (is_row since c d h near) r.0 (near.touch - touches c.state)
-          (next (ending r.0 (near.touch - touches c.state)) c d h r.2)
+          (next (within r.0 (near.touch - touches c.state)) c d h r.2)
           (omega (arith, near.near, r.1))
 
   soon_over : (since : ℕ) (c d : Machine S) → Cycle steps c false d → Soon since c → Soon 0 d
@@ -149,9 +149,9 @@ module _ {S : Type 0} {means : S → Meaning} {steps : S → Request → Answer 
   soon_lines since c l near = record { longest = near.longest; row = near.row; rows = near.rows; touch = near.touch; path = near.path; near = near.near }
 
   pub at_least_a_row : (since : ℕ) (c : Machine S) → Soon since c → since < latest (means start)
-  unfolding ending
+  unfolding within
   at_least_a_row since c near = by near.rows refl
     where
       by : (n : ℕ) → near.rows ≡ n → since < latest (means start)
-      by zero e = absurd (subst (λ n. T (ending n near.touch c.state.row)) e near.path)
+      by zero e = absurd (subst (λ n. T (within n near.touch c.state.row)) e near.path)
       by (suc n) e = omega (arith, near.near)

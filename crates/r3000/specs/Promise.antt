@@ -5,7 +5,7 @@ use Rattle.book.specs.Length.{length_of}
 use Rattle.bus.specs.Meaning.{Meaning}
 use Rattle.bus.specs.declared.request.Answer.{Answer}
 use Rattle.bus.specs.declared.request.Request.{Request}
-use Rattle.microprogram.specs.Bounds.{most_accesses, most_rows}
+use Rattle.microprogram.specs.Bounds.{path_budget}
 use Rattle.microprogram.specs.Cycle.{State}
 use Rattle.machine.specs.Registers.{reg}
 use Rattle.machine.specs.declared.fault.Fault.{Fault}
@@ -37,7 +37,7 @@ pub record Agrees (b : Book) (s : State) (m : Meaning) : Type 0 where
 
 -- the granted cycle with which the next boundary comes at the latest, counted from the one before or from power-up: 7 + 2 W
 abbrev pub latest : Meaning → ℕ
-latest m = most_rows + most_accesses * m.longest
+latest m = path_budget.rows + path_budget.accesses * m.longest
 
 -- whether a flag is up
 abbrev pub Up : State → Fault → Type 0
