@@ -1,6 +1,6 @@
 -- The book begins with words in its registers and bytes in its memory, and every step keeps that. Assumes nothing.
 use Rattle.std.proofs.Common.{◌≡◌, ℕ, zero, suc, ◌+◌, ◌-◌, ◌*◌, ◌%◌, ◌^◌, ◌<◌, ◌≤◌, Bool, true, false, cond, ◌&&◌, eqb, ltb, leb, [], ◌∷◌, get_or, replicate, Some, None, Option, refl, arith}
-use Rattle.bus.specs.Meaning.{stored, word_at}
+use Rattle.bus.specs.Meaning.{stored_byte, word_at}
 use Rattle.bus.specs.Request.{word_of}
 use Rattle.bus.specs.declared.request.Width.{Width}
 use Rattle.bus.specs.declared.request.Width.TheVariants.{Word, Half, Byte}
@@ -107,7 +107,7 @@ module _ (law : WordsStayWords) where
       pick Good bad (met_fit b f.Adel _ placed k)
       (pick Good (r.unreadable (word_of (address g))) (met_fit b f.Dbe _ placed k) (did_fit b _ (puts _ (rt g.ir) _ small (with_ad_lem g _ rest h)) k))
 
-  stored_small : (from n d : ℕ) (byte : ℕ → ℕ) → ((x : ℕ) → byte x < 256) → (x : ℕ) → stored from n d byte x < 256
+  stored_small : (from n d : ℕ) (byte : ℕ → ℕ) → ((x : ℕ) → byte x < 256) → (x : ℕ) → stored_byte from n d byte x < 256
   stored_small from n d byte k x = pick (λ m. m < 256) (leb from x && ltb x (from + n)) (omega arith) (k x)
 
   stores_fit : (r : Refusals) (b : Book) (bad : Bool) (width : Width) (g : Regs) → Words g → ((x : ℕ) → b.bytes x < 256) → Good (stores r b bad width g)

@@ -1,7 +1,7 @@
 -- The instruction book: the machine that knows instructions and no rows. Assumes nothing.
 use Rattle.std.specs.Prelude.{ℕ, ◌+◌, ◌-◌, ◌*◌, ◌/◌, ◌%◌, ◌^◌, Bool, cond, not, List, [], ◌∷◌, replicate, pos, Some, None, Option, ◌==◌, bit_or, int_le, int_lt, nat_lt}
-use Rattle.bus.specs.Meaning.{stored, word_at}
-use Rattle.bus.specs.Request.{first, size, word_of}
+use Rattle.bus.specs.Meaning.{stored_byte, word_at}
+use Rattle.bus.specs.Request.{first_address, byte_count, word_of}
 use Rattle.bus.specs.declared.request.Width.{Width}
 use Rattle.bus.specs.declared.request.Width.TheVariants.{Word, Half, Byte}
 use Rattle.machine.specs.Address.{barred, misplaced, user}
@@ -102,7 +102,7 @@ stores r b bad size' g =
     (record {
       regs = with_ad at g;
       ledger = b.ledger;
-      bytes = stored (first size' at) (size size') (reg g (rt g.ir)) b.bytes;
+      bytes = stored_byte (first_address size' at) (byte_count size') (reg g (rt g.ir)) b.bytes;
       fault = None;
       mask = g.sr;
     }))

@@ -10,11 +10,11 @@ use Rattle.bus.specs.declared.request.Width.{Width}
 use Rattle.bus.specs.declared.request.Width.TheVariants.{Word, Half, Byte}
 
 -- the requests that ask for a word, and that ask to write
-abbrev pub reading : ℕ → Request
-reading address = record { address = address; action = action.Read }
+abbrev pub read_of : ℕ → Request
+read_of address = record { address = address; action = action.Read }
 
-abbrev pub writing : Width → ℕ → ℕ → Request
-writing w address d = record { address = address; action = action.Write w d }
+abbrev pub write_of : Width → ℕ → ℕ → Request
+write_of w address d = record { address = address; action = action.Write w d }
 
 -- the kind of an action: read word, write word, write half or write byte
 abbrev pub kind_of : Action → Kind
@@ -32,23 +32,23 @@ kind_number (kind.Write Word) = 1
 kind_number (kind.Write Half) = 2
 kind_number (kind.Write Byte) = 3
 
-abbrev pub same : Access → Access → Bool
-same x y = x.address == y.address && kind_number x.kind == kind_number y.kind
+abbrev pub same_access : Access → Access → Bool
+same_access x y = x.address == y.address && kind_number x.kind == kind_number y.kind
 
 -- the same action at another address
-abbrev pub moved : ℕ → Request → Request
-moved address q = record { address = address; action = q.action }
+abbrev pub at_address : ℕ → Request → Request
+at_address address q = record { address = address; action = q.action }
 
 -- how many bytes a write changes
-abbrev pub size : Width → ℕ
-size Word = 4
-size Half = 2
-size Byte = 1
+abbrev pub byte_count : Width → ℕ
+byte_count Word = 4
+byte_count Half = 2
+byte_count Byte = 1
 
 -- the word that an address lies in is named by the address with its two low bits cleared
 abbrev pub word_of : ℕ → ℕ
 word_of address = address - address % 4
 
 -- the lowest address that a write changes: the address with as many low bits cleared as the width ignores
-abbrev pub first : Width → ℕ → ℕ
-first w address = address - address % size w
+abbrev pub first_address : Width → ℕ → ℕ
+first_address w address = address - address % byte_count w

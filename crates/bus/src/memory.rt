@@ -1,7 +1,7 @@
 //! What every memory and every layer promises.
 
 ghost use Rattle.std.specs.Prelude.{◌≡◌};
-ghost use Rattle.bus.specs.Meaning.{Meaning, Keeps, looked};
+ghost use Rattle.bus.specs.Meaning.{Meaning, Keeps, look_result};
 ghost use Rattle.bus.specs.declared.request.Answer.{Answer};
 ghost use Rattle.bus.specs.declared.request.Request.{Request};
 
@@ -12,14 +12,11 @@ pub const MAX_WAIT: u16 = 65_535;
 
 /// A memory, or a layer above memories.
 ///
-/// `means` is what it is to everything above, `steps` exactly how it goes on, and `keeps` the proof
-/// that each step keeps points 1 to 4 of the bus (docs/BUS.md); point 5 is the clause of `look`.
+/// `means` is what it is to everything above, and `steps` exactly how it goes on.
 pub trait Bus {
     ghost means: { Self → Meaning };
 
     ghost steps: { Self → Request → Answer → Self → Type 0 };
-
-    ghost keeps: { Keeps means steps };
 
     /// Asks for one request, which may have to be asked again.
     fn request(&mut self, q: Request) -> Answer
@@ -27,9 +24,14 @@ pub trait Bus {
 
     /// The byte at an address, or none where its word is refused to reads.
     fn look(&self, address: u32) -> Option<u8>
-        ensures { result ≡ looked (means self.now) address };
+        ensures { result ≡ look_result (means self.now) address };
 
     /// The most waits that any request can have.
     fn longest_wait(&self) -> u16
         ensures { result ≡ (means self.now).longest };
+
+    /// The theorem that each step keeps points 1 to 4 of the bus (docs/BUS.md); point 5 is the clause of `look`.
+    /// It is a proof and no code: whoever rests on it calls it.
+    fn keeps()
+        ensures { Keeps means steps };
 }

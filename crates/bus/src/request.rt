@@ -1,7 +1,7 @@
 //! What is asked of a memory, and what it answers.
 
 ghost use Rattle.std.specs.Prelude.{◌≡◌};
-ghost use Rattle.bus.specs.Request.{access_of, kind_of, reading, same, word_of, writing};
+ghost use Rattle.bus.specs.Request.{access_of, kind_of, read_of, same_access, word_of, write_of};
 
 /// The name of the word that an address lies in: the address with its two low bits cleared.
 pub fn word_of(address: u32) -> u32
@@ -18,8 +18,8 @@ pub enum Width {
     Byte,
 }
 
-// A read is a request like a write, so `Kind` and `Action` are no options; and an access is no request with empty data,
-// since what memories compare has names of its own.
+// A read is a request like a write, so `Kind` and `Action` are no options; and an access is no request with empty
+// data, since what memories compare has names of its own.
 
 /// The four kinds of request; a read always asks for a word.
 #[derive(Clone, Copy, PartialEq, Eq)]
@@ -63,7 +63,7 @@ pub struct Access {
 impl Access {
     /// The rules' word for it.
     pub fn same(self, other: Access) -> bool
-        ensures { result ≡ same self other }
+        ensures { result ≡ same_access self other }
     {
         self == other
     }
@@ -72,7 +72,7 @@ impl Access {
 impl Request {
     /// Asks for the word of an address.
     pub fn read(address: u32) -> Request
-        ensures { result ≡ reading address }
+        ensures { result ≡ read_of address }
     {
         Request {
             address,
@@ -80,10 +80,10 @@ impl Request {
         }
     }
 
-    /// Asks to write the low bits of the data. Width, address and data are what a write is: no struct has them before there
-    /// is a request.
+    /// Asks to write the low bits of the data. Width, address and data are what a write is: no struct has them before
+    /// there is a request.
     pub fn write(width: Width, address: u32, data: u32) -> Request
-        ensures { result ≡ writing width address «data» }
+        ensures { result ≡ write_of width address «data» }
     {
         Request {
             address,
@@ -101,8 +101,8 @@ impl Request {
     }
 }
 
-/// The bus's own three words, and so no `Option` of a `Result`. `Done` carries the word that a read found, and 0 after a
-/// write.
+/// The bus's own three words, and so no `Option` of a `Result`. `Done` carries the word that a read found, and 0 after
+/// a write.
 #[derive(Clone, Copy, PartialEq, Eq)]
 pub enum Answer {
     Wait,

@@ -1,7 +1,8 @@
 //! A request that is waited out.
 
 ghost use Rattle.std.specs.Prelude.{◌≡◌};
-ghost use Rattle.bus.specs.Settled.{Settles, ending};
+ghost use Rattle.bus.specs.Decided.{SettlesAsDecided};
+ghost use Rattle.bus.specs.Settled.{Settles, end_of};
 
 use super::memory::Bus;
 use super::request::{Answer, Request};
@@ -21,7 +22,7 @@ pub struct Settled {
 
 /// How the answer ends the request; a wait does not.
 fn end(request: Request, answer: Answer) -> Option<Result<u32, BusFault>>
-    ensures { result ≡ ending request answer }
+    ensures { result ≡ end_of request answer }
 {
     match answer {
         Answer::Wait => None,
@@ -36,6 +37,7 @@ fn end(request: Request, answer: Answer) -> Option<Result<u32, BusFault>>
 pub fn settle<B: Bus>(bus: &mut B, request: Request) -> Settled
     ensures { Settles B.Bus.means B.Bus.steps bus.old request result bus.new }
 {
+    B::keeps();
     for waits in 0..=bus.longest_wait() {
         let answer = bus.request(request);
         if let Some(outcome) = end(request, answer) {
@@ -44,3 +46,9 @@ pub fn settle<B: Bus>(bus: &mut B, request: Request) -> Settled
     }
     unreachable()
 }
+
+/// Where a memory's meaning decides how it goes on, it decides what waiting out leaves. A proof and no code: who calls
+/// it has its contract.
+pub fn settles_as_decided<B: Bus>()
+    ensures { SettlesAsDecided B.Bus.means B.Bus.steps }
+{}

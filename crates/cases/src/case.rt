@@ -1,9 +1,9 @@
 //! A case.
 
 ghost use Rattle.std.specs.Prelude.{◌≡◌, IsTrue, ◌↔◌};
-ghost use Rattle.replies.specs.Replies.{answer_to};
+ghost use Rattle.replies.specs.Replies.{answer_text};
 
-use lines::writing::text;
+use text::writing::text;
 use pile::job::Memories;
 use replies::Replies;
 
@@ -16,7 +16,7 @@ pub struct Case {
 
 /// Whether a job is answered by these replies.
 pub fn holds(job: &[u8], replies: &[u8]) -> bool
-    ensures { IsTrue result ↔ (answer_to job.now ≡ replies.now) }
+    ensures { IsTrue result ↔ (answer_text job.now ≡ replies.now) }
 {
     let mut memories = Memories::zeroed();
     let mut rest = replies;

@@ -6,7 +6,7 @@ use super::{
     products, programs, reading, resets, system, user, user_memory,
 };
 use jobs::whole::last_reply;
-use lines::reply::Reply;
+use text::reply::Reply;
 use pile::job::Memories;
 use replies::example::first_job;
 use std::alloc::{AllocError, Global};

@@ -1,5 +1,6 @@
 mod Coming
 mod Decided
+mod Late
 mod Lines
 mod Promised
 mod Taken

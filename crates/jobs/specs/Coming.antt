@@ -1,68 +1,79 @@
 -- A job at work, as the code has it: the replies that are still to come. Assumes nothing.
 use Rattle.std.specs.Prelude.{ℕ, List, [], ◌∷◌, ◌++◌, MatchOption, Some, None, Option, option_to_list}
 use Rattle.std.specs.Iterator.{YieldsFirst}
-use Rattle.bus.specs.Decided.{Decided}
+use Rattle.bus.specs.Decided.{IsDecided}
 use Rattle.bus.specs.Meaning.{Meaning}
 use Rattle.bus.specs.declared.request.Answer.{Answer}
 use Rattle.bus.specs.declared.request.Request.{Request}
 use Rattle.jobs.specs.Decided as sight
-use Rattle.jobs.specs.Decided.{Sight, replies}
-use Rattle.jobs.specs.Job.{Gives, Standing, ToCome, lines_of}
-use Rattle.jobs.specs.Station.{IsPromised, IsReached, Stage, loading, stage}
+use Rattle.jobs.specs.Decided.{Sight, replies_to_lines}
+use Rattle.jobs.specs.Job.{GivesNext, Standing, AreToCome, text_lines_of}
+use Rattle.jobs.specs.Station.{StageIsPromised, StageIsReached, Stage, loading, stage_of_station}
 use Rattle.jobs.specs.declared.job.Job.{Job}
-use Rattle.lines.specs.declared.reply.Reply.{Reply}
-use Rattle.r3000.specs.Core.{made}
-use Rattle.r3000.specs.Machine.{History, Machine, fresh}
+use Rattle.text.specs.declared.reply.Reply.{Reply}
+use Rattle.r3000.specs.Core.{machine_of_parts}
+use Rattle.r3000.specs.Decided.{core_meaning}
+use Rattle.r3000.specs.Machine.{History, no_history}
 use Rattle.r3000.specs.declared.processor.Processor.{Processor}
 
 module _ {B : Type 0} where
-  -- the stage of a job, on the pile of its start; a job has its pile whenever it is not at work, and without one it would be at
-  -- its end
-  abbrev pub stage_of : B → History → Option B → Option Processor → Stage B
-  stage_of s h (Some pile) processor = stage s h (record { pile = pile; processor = processor })
-  stage_of s h None processor = loading s
+  -- the stage of a job, on the pile of its start; a job has its pile whenever it is not at work, and
+  -- without one it would be at its end
+  abbrev pub job_stage : B → History → Option B → Option Processor → Stage B
+  job_stage s h (Some pile) processor = stage_of_station s h (record { pile = pile; processor = processor })
+  job_stage s h None processor = loading s
 
   -- the lines that are left of a job's bytes; without a pile none are
-  abbrev pub left_of : Option B → List ℕ → List (List ℕ)
-  left_of (Some pile) bytes = lines_of bytes
-  left_of None bytes = []
+  abbrev pub lines_left : Option B → List ℕ → List (List ℕ)
+  lines_left (Some pile) bytes = text_lines_of bytes
+  lines_left None bytes = []
 
   -- where a job stands, on the pile of its start and with a history behind it
-  abbrev pub standing : B → History → Job B → Standing B
-  standing s h x =
-      record { due = option_to_list x.due; stage = stage_of s h x.pile x.processor; number = x.number; left = left_of x.pile x.lines.0.now }
+  abbrev pub standing_of : B → History → Job B → Standing B
+  standing_of s h x =
+      record {
+        due = option_to_list x.due;
+        stage = job_stage s h x.pile x.processor;
+        number = x.number;
+        left = lines_left x.pile x.lines.0.now;
+      }
 
   module _ (means : B → Meaning) where
-    -- a core with what its memory means in the memory's place, and no history
-    abbrev pub core_shown : Machine B → Machine Meaning
-    core_shown c = record { state = c.state; lines = c.lines; report = c.report; pile = means c.pile; history = fresh }
-
     -- a pile and its processor, so
     abbrev pub sight_of : B → Option Processor → Sight
     sight_of pile None = sight.loading (means pile)
-    sight_of pile (Some processor) = sight.running (core_shown (made fresh processor pile))
+    sight_of pile (Some processor) = sight.running (core_meaning means (machine_of_parts no_history processor pile))
 
     -- on a decided memory the replies that are still to come of a job are these
-    abbrev pub to_come : (Meaning → Request → Meaning) → Job B → List Reply
-    to_come next x =
-        option_to_list x.due ++ elim x.pile [ Some pile ↦ replies next (sight_of pile x.processor) x.number (lines_of x.lines.0.now) | None ↦ [] ]
+    abbrev pub replies_to_come : (Meaning → Request → Meaning) → Job B → List Reply
+    replies_to_come next x =
+        option_to_list x.due
+        ++ elim x.pile [
+          | Some pile ↦ replies_to_lines next (sight_of pile x.processor) x.number (text_lines_of x.lines.0.now)
+          | None ↦ []
+        ]
 
     module _ (steps : B → Request → Answer → B → Type 0) where
-      -- what a reply that was given leaves to come: whatever comes after it is, with it, what came before; and none is given
-      -- only where none is to come
+      -- what a reply that was given leaves to come: whatever comes after it is, with it, what came before; and none is
+      -- given only where none is to come
       abbrev pub Leaves : Standing B → Option Reply → Standing B → Type 0
-      Leaves x r y = MatchOption r (ToCome means steps x []) (λ d. (rs : List Reply) → ToCome means steps y rs → ToCome means steps x (d ∷ rs))
+      Leaves x r y =
+          MatchOption r (AreToCome means steps x [])
+          (λ d. (rs : List Reply) → AreToCome means steps y rs → AreToCome means steps x (d ∷ rs))
 
       -- one call of next, over any pile
-      pub record Turns (s : B) (h : History) (x : Job B) (r : Option Reply) (y : Job B) : Type 0 where
+      pub record NextTurns (s : B) (h : History) (x : Job B) (r : Option Reply) (y : Job B) : Type 0 where
         pub pile : B
         pub history : History
-        pub gives : Gives means steps (standing s h x) r (standing pile history y)
+        pub gives : GivesNext means steps (standing_of s h x) r (standing_of pile history y)
         -- where the core could be reached, the promise holds of it, and the replies are those of the job
-        pub promise : IsReached means steps (standing s h x).stage → IsPromised means steps (standing pile history y).stage
-        pub leaves : IsReached means steps (standing s h x).stage → Leaves (standing s h x) r (standing pile history y)
+        pub promise : StageIsReached means steps (standing_of s h x).stage
+            → StageIsPromised means steps (standing_of pile history y).stage
+        pub leaves : StageIsReached means steps (standing_of s h x).stage
+            → Leaves (standing_of s h x) r (standing_of pile history y)
 
       -- and, where the pile is decided, the value of the function
       pub record NextGives (x : Job B) (r : Option Reply) (y : Job B) : Type 0 where
-        pub turns : (s : B) (h : History) → Turns s h x r y
-        pub exact : (next : Meaning → Request → Meaning) → Decided means steps next → YieldsFirst (to_come next) x r y
+        pub turns : (s : B) (h : History) → NextTurns s h x r y
+        pub exact : (next : Meaning → Request → Meaning) → IsDecided means steps next
+            → YieldsFirst (replies_to_come next) x r y

@@ -1,5 +1,7 @@
 pub mod Coming
 pub mod Decided
+pub mod Decision
+pub mod Fault
 pub mod Job
 pub mod Limits
 pub mod Station

@@ -1,28 +1,28 @@
--- What each line does, before the start and after it. Assumes nothing.
+-- What a line does, over any memory. Assumes nothing.
 use Rattle.std.specs.Prelude.{◌≡◌, ℕ, Some, None, Ok, Err, Result}
 use Rattle.bus.specs.Meaning.{Meaning}
-use Rattle.bus.specs.Request.{writing}
+use Rattle.bus.specs.Request.{write_of}
 use Rattle.bus.specs.Settled.{Settles}
 use Rattle.bus.specs.declared.request.Answer.{Answer}
 use Rattle.bus.specs.declared.request.Request.{Request}
 use Rattle.bus.specs.declared.request.Width.TheVariants.{Word}
 use Rattle.bus.specs.declared.settle.BusFault.{BusFault}
 use Rattle.bus.specs.declared.settle.Settled.{Settled}
-use Rattle.lines.specs.declared.fault.JobFault.{JobFault}
-use Rattle.lines.specs.declared.fault.JobFault.TheVariants as fault
-use Rattle.lines.specs.declared.fault.LoadFault.{LoadFault}
-use Rattle.lines.specs.declared.order.Order.{Order}
-use Rattle.lines.specs.declared.order.Order.TheVariants as order
-use Rattle.lines.specs.declared.reply.Reply.{Reply}
-use Rattle.lines.specs.declared.reply.Reply.TheVariants as reply
+use Rattle.jobs.specs.Decision.{EarlyEffect, LateEffect, decision, make_cycles, power_up, reply_with, set_lines}
+use Rattle.jobs.specs.Decision as effect
+use Rattle.jobs.specs.declared.fault.JobFault.{JobFault}
+use Rattle.jobs.specs.declared.fault.JobFault.TheVariants as fault
+use Rattle.jobs.specs.declared.fault.LoadFault.{LoadFault}
 use Rattle.jobs.specs.declared.station.Station.{Station}
-use Rattle.r3000.specs.Calls.{Runs, lines_reply, lines_set, register_reply}
-use Rattle.r3000.specs.Core.{made}
-use Rattle.r3000.specs.Machine.{History, Machine, built}
-use Rattle.r3000.specs.Promise.{Promised, Upholds}
-use Rattle.r3000.specs.Reached.{Reached}
-use Rattle.r3000.specs.declared.denial.Denial.{Denial}
+use Rattle.r3000.specs.Core.{machine_of_parts}
+use Rattle.r3000.specs.Cycle.{Cycles}
+use Rattle.r3000.specs.Machine.{History, Machine, core_at_power_up, with_lines}
+use Rattle.r3000.specs.Promise.{StageIsPromised, Upholds}
+use Rattle.r3000.specs.Reached.{StageIsReached}
 use Rattle.r3000.specs.declared.report.Report.{Report}
+use Rattle.text.specs.declared.order.Order.{Order}
+use Rattle.text.specs.declared.reply.Reply.{Reply}
+use Rattle.text.specs.declared.reply.Reply.TheVariants as reply
 
 -- before the start there is a pile; after it a core, and the pile that it was built on
 pub data Stage (S : Type 0) : Type 0 where
@@ -30,65 +30,75 @@ pub data Stage (S : Type 0) : Type 0 where
   running : S → Machine S → Stage S
 
 -- a load writes the word
-abbrev pub store : ℕ → ℕ → Request
-store address word = writing Word address word
+abbrev pub store_request : ℕ → ℕ → Request
+store_request address word = write_of Word address word
 
 -- a refusal of the bus becomes a load's fault, with its address
-abbrev pub load_end : Result ℕ BusFault → Result (Unit {0}) LoadFault
-load_end (Ok w) = Ok tt
-load_end (Err f) = Err (record { refused = f })
+abbrev pub load_result : Result ℕ BusFault → Result (Unit {0}) LoadFault
+load_result (Ok w) = Ok tt
+load_result (Err f) = Err (record { refused = f })
 
 -- a load's fault goes up as the line's
-abbrev pub loaded : Result (Unit {0}) LoadFault → Result Reply JobFault
-loaded (Ok u) = Ok reply.Loaded
-loaded (Err f) = Err (fault.Load f)
-
--- what a call of the core gives is put into the line's reply, and a denial goes up as the line's
-abbrev pub called : {A : Type 0} → (A → Reply) → Result A Denial → Result Reply JobFault
-called put (Ok a) = Ok (put a)
-called put (Err d) = Err (fault.Core d)
+abbrev pub load_reply : Result (Unit {0}) LoadFault → Result Reply JobFault
+load_reply (Ok u) = Ok reply.Loaded
+load_reply (Err f) = Err (fault.Load f)
 
 -- a run's reply has the counts of its report
-abbrev pub counted : Report → Reply
-counted n = reply.Ran (record { cycles = n.cycles; frozen = n.frozen; boundaries = n.boundaries })
+abbrev pub run_reply : Report → Reply
+run_reply n = reply.Ran (record { cycles = n.cycles; frozen = n.frozen; boundaries = n.boundaries })
 
 module _ {S : Type 0} (means : S → Meaning) (steps : S → Request → Answer → S → Type 0) where
-  -- an order before the start
-  abbrev pub EarlyObeys : S → Order → Result Reply JobFault → Stage S → Type 0
-  EarlyObeys s (order.Load address word) r e = (q : Settled) × (t : S) × Settles means steps s (store address word) q t × (r ≡ loaded (load_end q.outcome)) × (e ≡ loading t)
-  EarlyObeys s order.Start r e = (r ≡ Ok reply.Started) × (e ≡ running s (built s))
-  EarlyObeys s (order.Lines n) r e = (r ≡ Err fault.BeforeStart) × (e ≡ loading s)
-  EarlyObeys s (order.Run n) r e = (r ≡ Err fault.BeforeStart) × (e ≡ loading s)
-  EarlyObeys s (order.Show n) r e = (r ≡ Err fault.BeforeStart) × (e ≡ loading s)
+  -- an effect before the start, on a memory
+  abbrev pub EarlyDoes : S → EarlyEffect → Result Reply JobFault → Stage S → Type 0
+  EarlyDoes s (effect.store address word) r e =
+      (q : Settled) × (t : S) × Settles means steps s (store_request address word) q t
+      × (r ≡ load_reply (load_result q.outcome))
+      × (e ≡ loading t)
+  EarlyDoes s power_up r e = (r ≡ Ok reply.Started) × (e ≡ running s (core_at_power_up s))
 
-  -- an order after the start; each cycle of a run upholds the promise
-  abbrev pub LateObeys : Machine S → Order → Result Reply JobFault → Machine S → Type 0
-  LateObeys c (order.Load address word) r d = (r ≡ Err fault.AfterStart) × (d ≡ c)
-  LateObeys c order.Start r d = (r ≡ Err fault.AfterStart) × (d ≡ c)
-  LateObeys c (order.Lines n) r d = (r ≡ called (λ u. reply.Set) (lines_reply n)) × (d ≡ lines_set n c)
-  LateObeys c (order.Run n) r d = (q : Result Report Denial) × Runs steps (Upholds means steps c) n c q d × (r ≡ called counted q)
-  LateObeys c (order.Show n) r d = (r ≡ called (reply.Shown n) (register_reply n c.state)) × (d ≡ c)
+  -- an effect after the start, on a core; each cycle upholds the promise
+  abbrev pub LateDoes : Machine S → LateEffect → Reply → Machine S → Type 0
+  LateDoes c (set_lines n) r d = (r ≡ reply.Set) × (d ≡ with_lines n c)
+  LateDoes c (make_cycles n) r d = Cycles steps (Upholds means steps c) n c d × (r ≡ run_reply d.observed.report)
+  LateDoes c (reply_with q) r d = (r ≡ q) × (d ≡ c)
+
+  -- what was decided before the start: a denied line leaves the memory as it is
+  abbrev pub EarlyAnswers : S → Result EarlyEffect JobFault → Result Reply JobFault → Stage S → Type 0
+  EarlyAnswers s (Err f) r e = (r ≡ Err f) × (e ≡ loading s)
+  EarlyAnswers s (Ok x) r e = EarlyDoes s x r e
+
+  -- what was decided after the start: a denied line leaves the core as it is
+  abbrev pub LateAnswers : Machine S → Result LateEffect JobFault → Result Reply JobFault → Machine S → Type 0
+  LateAnswers c (Err f) r d = (r ≡ Err f) × (d ≡ c)
+  LateAnswers c (Ok x) r d = (q : Reply) × (r ≡ Ok q) × LateDoes c x q d
 
   -- an order
-  abbrev pub Obeys : Stage S → Order → Result Reply JobFault → Stage S → Type 0
-  Obeys (loading s) o r e = EarlyObeys s o r e
-  Obeys (running s c) o r e = (d : Machine S) × LateObeys c o r d × (e ≡ running s d)
+  abbrev pub AnswersOrder : Stage S → Order → Result Reply JobFault → Stage S → Type 0
+  AnswersOrder (loading s) o r e = EarlyAnswers s (decision o).before r e
+  AnswersOrder (running s c) o r e =
+      (d : Machine S) × LateAnswers c ((decision o).after c.processor c.observed.report) r d × (e ≡ running s d)
 
   -- the core, if there is one, can be reached on the pile that it was built on
-  abbrev pub IsReached : Stage S → Type 0
-  IsReached (loading s) = Unit {0}
-  IsReached (running s c) = Reached steps s c
+  abbrev pub StageIsReached : Stage S → Type 0
+  StageIsReached (loading s) = Unit {0}
+  StageIsReached (running s c) = StageIsReached steps s c
 
   -- and the promise holds of it
-  abbrev pub IsPromised : Stage S → Type 0
-  IsPromised (loading s) = Unit {0}
-  IsPromised (running s c) = Promised means steps s c
+  abbrev pub StageIsPromised : Stage S → Type 0
+  StageIsPromised (loading s) = Unit {0}
+  StageIsPromised (running s c) = StageIsPromised means steps s c
 
 -- the code's station, on the pile of its start and with a history behind it
-abbrev pub stage : {B : Type 0} → B → History → Station B → Stage B
-stage s h x = elim x.processor [ Some processor ↦ running s (made h processor x.pile) | None ↦ loading x.pile ]
+abbrev pub stage_of_station : {B : Type 0} → B → History → Station B → Stage B
+stage_of_station s h x = elim x.processor [
+  | Some processor ↦ running s (machine_of_parts h processor x.pile)
+  | None ↦ loading x.pile
+]
 
 -- whatever is behind a station, something happens to it, and that is then behind it too; and the promise is upheld
-abbrev pub Goes : {B : Type 0} → (B → Meaning) → (B → Request → Answer → B → Type 0) → (Stage B → Stage B → Type 0) → Station B → Station B → Type 0
-Goes {B} means steps R c d =
-    (s : B) (h : History) → (t : B) × (k : History) × R (stage s h c) (stage t k d) × (IsReached means steps (stage s h c) → IsPromised means steps (stage t k d))
+abbrev pub StationDoes : {B : Type 0} → (B → Meaning) → (B → Request → Answer → B → Type 0)
+    → (Stage B → Stage B → Type 0)
+    → Station B → Station B → Type 0
+StationDoes {B} means steps R c d =
+    (s : B) (h : History) → (t : B) × (k : History) × R (stage_of_station s h c) (stage_of_station t k d)
+    × (StageIsReached means steps (stage_of_station s h c) → StageIsPromised means steps (stage_of_station t k d))

@@ -1,7 +1,7 @@
 //! A job, cut into its lines.
 
 ghost use Rattle.std.specs.Iterator.{YieldsFirstRef, item_count};
-ghost use Rattle.jobs.specs.Job.{lines_of};
+ghost use Rattle.jobs.specs.Job.{text_lines_of};
 
 // A type, and no chain of the library: its meaning is the list of lines, whatever cuts them.
 
@@ -12,9 +12,9 @@ pub struct Lines<'a>(pub &'a [u8]);
 impl<'a> Iterator for Lines<'a> {
     type Item = &'a [u8];
 
-    ghost next_gives = { YieldsFirstRef (λ s. lines_of s.0.now) };
+    ghost next_gives = { YieldsFirstRef (λ s. text_lines_of s.0.now) };
 
-    ghost remaining = { item_count (λ s. lines_of s.0.now) };
+    ghost remaining = { item_count (λ s. text_lines_of s.0.now) };
 
     fn next(&mut self) -> Option<&'a [u8]> {
         let line = self.0.split_inclusive(|byte| *byte == b'\n').next()?;

@@ -3,6 +3,7 @@
 #![tactic(auto)]
 
 mod cut;
+pub mod fault;
 pub mod job;
 pub mod limits;
 pub mod station;

@@ -1,25 +1,28 @@
 //! Where a job stands: loading, or running.
 
 ghost use Rattle.std.specs.Prelude.{◌≡◌, ◌∷◌, []};
-ghost use Rattle.r3000.specs.Core.{machine};
-ghost use Rattle.r3000.specs.Machine.{History, fresh};
+ghost use Rattle.r3000.specs.Core.{machine_of};
+ghost use Rattle.r3000.specs.Machine.{History, no_history};
 ghost use Rattle.r3000.specs.Promise.{Happens};
 ghost use Rattle.bus.specs.Settled.{Settles};
 ghost use Rattle.bus.specs.declared.settle.Settled.{Settled};
-ghost use Rattle.jobs.specs.Job.{Heeds, denial};
-ghost use Rattle.jobs.specs.Station.{EarlyObeys, Goes, LateObeys, Obeys, load_end, loaded, loading, running, stage, store};
-ghost use Rattle.lines.specs.Line.{read_line};
+ghost use Rattle.jobs.specs.Decision.{decision};
+ghost use Rattle.jobs.specs.Job.{AnswersLine, denial_reply};
+ghost use Rattle.jobs.specs.Station.{EarlyAnswers, StationDoes, LateAnswers, AnswersOrder, run_reply, load_result};
+ghost use Rattle.jobs.specs.Station.{load_reply, loading, running, stage_of_station, store_request};
+ghost use Rattle.text.specs.Line.{read_line};
 
+use super::fault::{JobFault, LoadFault};
 use bus::memory::Bus;
 use bus::request::{Request, Width};
 use bus::settle::settle;
-use lines::fault::{JobFault, LoadFault};
-use lines::order::Order;
-use lines::reading::read;
-use lines::reply::{Denied, Reply};
 use r3000::cpu::Core;
 use r3000::processor::Processor;
 use r3000::promise::promise;
+use r3000::report::Report;
+use text::order::Order;
+use text::reading::read;
+use text::reply::{Counts, Denied, Reply};
 
 /// A pile, and the processor that runs on it from the start on.
 #[derive(Drop)]
@@ -31,7 +34,9 @@ pub(crate) struct Station<B> {
 
 /// Writes a word, and waits it out. A refusal of the bus becomes the load's fault.
 fn write<B: Bus>(pile: &mut B, address: u32, word: u32) -> Result<(), LoadFault>
-    ensures { (q : Settled) × Settles B.Bus.means B.Bus.steps pile.old (store address word) q pile.new × (result ≡ load_end q.outcome) }
+    ensures { (q : Settled)
+        × Settles B.Bus.means B.Bus.steps pile.old (store_request address word) q pile.new
+        × (result ≡ load_result q.outcome) }
 {
     settle(pile, Request::write(Width::Word, address, word)).outcome?;
     Ok(())
@@ -39,15 +44,28 @@ fn write<B: Bus>(pile: &mut B, address: u32, word: u32) -> Result<(), LoadFault>
 
 /// Loads a word. The load's fault goes up as the line's.
 fn load<B: Bus>(pile: &mut B, address: u32, word: u32) -> Result<Reply, JobFault>
-    ensures { (q : Settled) × Settles B.Bus.means B.Bus.steps pile.old (store address word) q pile.new × (result ≡ loaded (load_end q.outcome)) }
+    ensures { (q : Settled)
+        × Settles B.Bus.means B.Bus.steps pile.old (store_request address word) q pile.new
+        × (result ≡ load_reply (load_result q.outcome)) }
 {
     write(pile, address, word)?;
     Ok(Reply::Loaded)
 }
 
+/// The reply to a run, which tells three counts of its report.
+fn ran(report: Report) -> Reply
+    ensures { result ≡ run_reply report }
+{
+    Reply::Ran(Counts {
+        cycles: report.cycles,
+        frozen: report.frozen,
+        boundaries: report.boundaries,
+    })
+}
+
 /// The reply to a denied line.
 pub(crate) fn denial(line: u32, fault: JobFault) -> Reply
-    ensures { result ≡ denial line fault }
+    ensures { result ≡ denial_reply line fault }
 {
     Reply::Denied(Denied {
         number: fault.number(),
@@ -58,7 +76,8 @@ pub(crate) fn denial(line: u32, fault: JobFault) -> Reply
 
 /// An order before the start.
 fn early<B: Bus>(mut pile: B, order: Order) -> (Station<B>, Result<Reply, JobFault>)
-    ensures { EarlyObeys B.Bus.means B.Bus.steps pile order result.1 (stage pile fresh result.0) }
+    ensures { EarlyAnswers B.Bus.means B.Bus.steps pile (decision order).before result.1
+        (stage_of_station pile no_history result.0) }
 {
     match order {
         Order::Load(address, word) => {
@@ -74,7 +93,9 @@ fn early<B: Bus>(mut pile: B, order: Order) -> (Station<B>, Result<Reply, JobFau
 
 /// An order after the start.
 fn late<B: Bus>(core: &mut Core<B>, order: Order) -> Result<Reply, JobFault>
-    ensures { Happens B.Bus.means B.Bus.steps (λ c d. LateObeys B.Bus.means B.Bus.steps c order result d) core.old core.new }
+    ensures { Happens B.Bus.means B.Bus.steps
+        (λ c d. LateAnswers B.Bus.means B.Bus.steps c ((decision order).after c.processor c.observed.report) result d)
+        core.old core.new }
 {
     promise::<B>();
     match order {
@@ -83,7 +104,7 @@ fn late<B: Bus>(core: &mut Core<B>, order: Order) -> Result<Reply, JobFault>
             core.lines(lines)?;
             Ok(Reply::Set)
         }
-        Order::Run(count) => Ok(Reply::Ran(core.run(u32::from(count))?.into())),
+        Order::Run(count) => Ok(ran(core.run(u32::from(count))?)),
         Order::Show(number) => Ok(Reply::Shown(number, core.register(number)?)),
     }
 }
@@ -91,7 +112,7 @@ fn late<B: Bus>(core: &mut Core<B>, order: Order) -> Result<Reply, JobFault>
 impl<B: Bus> Station<B> {
     /// Before the start.
     pub(crate) fn loading(pile: B) -> Station<B>
-        ensures { (s : B) (h : History) → stage s h result ≡ loading pile }
+        ensures { (s : B) (h : History) → stage_of_station s h result ≡ loading pile }
     {
         Station {
             pile,
@@ -101,7 +122,7 @@ impl<B: Bus> Station<B> {
 
     /// From the start on.
     fn running(core: Core<B>) -> Station<B>
-        ensures { (s : B) (h : History) → stage s h result ≡ running s (machine h core) }
+        ensures { (s : B) (h : History) → stage_of_station s h result ≡ running s (machine_of h core) }
     {
         let (processor, pile) = core.into_parts();
         Station {
@@ -112,7 +133,8 @@ impl<B: Bus> Station<B> {
 
     /// Does what a line asks for.
     fn obey(self, order: Order) -> (Station<B>, Result<Reply, JobFault>)
-        ensures { Goes B.Bus.means B.Bus.steps (λ e f. Obeys B.Bus.means B.Bus.steps e order result.1 f) self result.0 }
+        ensures { StationDoes B.Bus.means B.Bus.steps (λ e f. AnswersOrder B.Bus.means B.Bus.steps e order result.1 f)
+            self result.0 }
     {
         promise::<B>();
         let Some(processor) = self.processor else {
@@ -125,12 +147,14 @@ impl<B: Bus> Station<B> {
 
     /// A line, and its reply.
     pub(crate) fn heed(self, number: u32, line: &[u8]) -> (Station<B>, Reply)
-        ensures { Goes B.Bus.means B.Bus.steps (λ e f. Heeds B.Bus.means B.Bus.steps e number (read_line line.now) (result.1 ∷ []) f) self result.0 }
+        ensures { StationDoes B.Bus.means B.Bus.steps
+            (λ e f. AnswersLine B.Bus.means B.Bus.steps e number (read_line line.now) (result.1 ∷ []) f) self
+            result.0 }
     {
         promise::<B>();
         let (station, end) = match read(line) {
             Ok(order) => self.obey(order),
-            Err(fault) => (self, Err(fault)),
+            Err(fault) => (self, Err(JobFault::Line(fault))),
         };
         (station, end.unwrap_or_else(|fault| denial(number, fault)))
     }

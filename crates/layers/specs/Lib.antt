@@ -1,4 +1,3 @@
 pub mod Delay
-pub mod Keeps
 pub mod Split
 pub mod Window

@@ -21,7 +21,8 @@ abbrev pub split_means : {A B : Type 0} → (A → Meaning) → (B → Meaning) 
 split_means one two s = split s.mark (one s.first) (two s.second)
 
 -- how a split goes on: the memory that has the address is asked, and the other stays as it is
-abbrev pub SplitSteps : {A B : Type 0} → (A → Request → Answer → A → Type 0) → (B → Request → Answer → B → Type 0) → Split A B → Request → Answer → Split A B → Type 0
+abbrev pub SplitSteps : {A B : Type 0} → (A → Request → Answer → A → Type 0) → (B → Request → Answer → B → Type 0)
+    → Split A B → Request → Answer → Split A B → Type 0
 SplitSteps one two s q a t =
     (t.mark ≡ s.mark)
     × MatchBool (nat_lt q.address (word_of s.mark))

@@ -2,8 +2,7 @@
 
 ghost use Rattle.std.specs.Prelude.{◌≡◌};
 ghost use Rattle.bus.specs.Request.{access_of};
-ghost use Rattle.layers.specs.Delay.{DelaySteps, delay, delay_means, ended, lowered};
-ghost use Rattle.layers.specs.Keeps.Delay.{delay_keeps};
+ghost use Rattle.layers.specs.Delay.{DelaySteps, delay, delay_means, state_after, own_waits};
 ghost use Rattle.layers.specs.declared.delay.State.TheVariants.{Idle};
 
 use bus::memory::{Bus, MAX_WAIT};
@@ -38,7 +37,7 @@ impl<B: Bus> Delay<B> {
 
     /// `n`, lowered where the longest wait would pass `MAX_WAIT`.
     fn own_waits(&self) -> u8
-        ensures { result ≡ lowered self.now.n (B.Bus.means self.now.below).longest }
+        ensures { result ≡ own_waits self.now.n (B.Bus.means self.now.below).longest }
     {
         u16::from(self.n).min(MAX_WAIT - self.below.longest_wait()) as u8
     }
@@ -47,7 +46,7 @@ impl<B: Bus> Delay<B> {
     fn ask(&mut self, q: Request) -> Answer
         ensures n { self.new.n ≡ self.old.n }
         ensures below { B.Bus.steps self.old.below q result self.new.below }
-        ensures state { self.new.state ≡ ended (access_of q) result }
+        ensures state { self.new.state ≡ state_after (access_of q) result }
     {
         let answer = self.below.request(q);
         self.state = match answer {
@@ -65,8 +64,6 @@ impl<B: Bus> Bus for Delay<B> {
     ghost means = { delay_means B.Bus.means };
 
     ghost steps = { DelaySteps B.Bus.means B.Bus.steps };
-
-    ghost keeps = { delay_keeps B.Bus.keeps };
 
     fn request(&mut self, q: Request) -> Answer {
         let n = self.own_waits();
@@ -93,5 +90,9 @@ impl<B: Bus> Bus for Delay<B> {
 
     fn longest_wait(&self) -> u16 {
         self.below.longest_wait() + u16::from(self.own_waits())
+    }
+
+    fn keeps() {
+        B::keeps();
     }
 }

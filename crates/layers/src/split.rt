@@ -2,7 +2,6 @@
 
 ghost use Rattle.std.specs.Prelude.{◌≡◌, nat_lt};
 ghost use Rattle.bus.specs.Request.{word_of};
-ghost use Rattle.layers.specs.Keeps.Split.{split_keeps};
 ghost use Rattle.layers.specs.Split.{SplitSteps, split, split_means};
 
 use bus::memory::Bus;
@@ -42,8 +41,6 @@ impl<A: Bus, B: Bus> Bus for Split<A, B> {
 
     ghost steps = { SplitSteps A.Bus.steps B.Bus.steps };
 
-    ghost keeps = { split_keeps A.Bus.keeps B.Bus.keeps };
-
     fn request(&mut self, q: Request) -> Answer {
         if self.is_low(q.address) {
             self.first.request(q)
@@ -62,5 +59,10 @@ impl<A: Bus, B: Bus> Bus for Split<A, B> {
 
     fn longest_wait(&self) -> u16 {
         self.first.longest_wait().max(self.second.longest_wait())
+    }
+
+    fn keeps() {
+        A::keeps();
+        B::keeps();
     }
 }

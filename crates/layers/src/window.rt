@@ -1,8 +1,7 @@
 //! Window: a part of a memory, seen from address 0 up to a limit.
 
 ghost use Rattle.std.specs.Prelude.{◌≡◌, if◌then◌else◌, Some, None, nat_lt};
-ghost use Rattle.layers.specs.Keeps.Window.{window_keeps};
-ghost use Rattle.layers.specs.Window.{WindowSteps, end, onto, window, window_means};
+ghost use Rattle.layers.specs.Window.{WindowSteps, limit_address, address_below, window, window_means};
 
 use bus::memory::Bus;
 use bus::request::{Answer, Request, word_of};
@@ -26,7 +25,9 @@ impl<B: Bus> Window<B> {
 impl<B> Window<B> {
     /// The address below that an address of the window stands for; none from the limit up.
     fn onto(&self, address: u32) -> Option<u32>
-        ensures { result ≡ (if nat_lt address (end self.now.limit) then Some (onto self.now.base address) else None) }
+        ensures { result
+            ≡ (if nat_lt address (limit_address self.now.limit) then Some (address_below self.now.base address) else
+            None) }
     {
         let within = address < word_of(self.limit);
         within.then_some(word_of(self.base).wrapping_add(address))
@@ -37,8 +38,6 @@ impl<B: Bus> Bus for Window<B> {
     ghost means = { window_means B.Bus.means };
 
     ghost steps = { WindowSteps B.Bus.steps };
-
-    ghost keeps = { window_keeps B.Bus.keeps };
 
     fn request(&mut self, q: Request) -> Answer {
         match self.onto(q.address) {
@@ -53,5 +52,9 @@ impl<B: Bus> Bus for Window<B> {
 
     fn longest_wait(&self) -> u16 {
         self.below.longest_wait()
+    }
+
+    fn keeps() {
+        B::keeps();
     }
 }

@@ -1,11 +1,13 @@
 -- What the bytes at a base mean once some of them are written. Assumes nothing.
-use Rattle.std.proofs.Common.{◌≡◌, ℕ, zero, suc, ◌+◌, ◌-◌, ◌/◌, ◌%◌, ◌^◌, ◌<◌, ◌≤◌, Bool, true, false, cond, ◌&&◌, ltb, leb, ◌≢◌, ◌⊎◌, List, length, set, Some, None, refl, ◌∙◌, inl, inr, add-zero, div-one, arith, get_or-set_other, get_or-set_same}
+use Rattle.std.proofs.Common.{◌≡◌, ℕ, zero, suc, ◌+◌, ◌-◌, ◌/◌, ◌%◌, ◌^◌, ◌<◌, ◌≤◌, ◌≢◌, ◌⊎◌, ltb, leb, inl, inr}
+use Rattle.std.proofs.Common.{Bool, true, false, cond, ◌&&◌, List, length, set, Some, None, refl, ◌∙◌}
+use Rattle.std.proofs.Common.{add-zero, div-one, arith, get_or-set_other, get_or-set_same}
 use Rattle.std.proofs.lemmas.List.{length-set}
 use Rattle.std.proofs.lemmas.Bool.{cases_eq, le-leb, leb-true}
 use Rattle.std.proofs.lemmas.Bool.Decides.{nat_tests}
-use Rattle.bus.specs.Meaning.{stored}
-use Rattle.memories.specs.Region.{Moves, held, outside}
-use Rattle.bus.specs.Request.{first, size, word_of, writing}
+use Rattle.bus.specs.Meaning.{stored_byte}
+use Rattle.memories.specs.Region.{RegionSteps, byte_at, is_outside}
+use Rattle.bus.specs.Request.{first_address, byte_count, word_of, write_of}
 use Rattle.bus.specs.declared.request.Answer.TheVariants.{Done}
 use Rattle.bus.specs.declared.request.Width.{Width}
 
@@ -19,23 +21,26 @@ unfolding filled
 filled_length at zero d bs = refl
 filled_length at (suc n) d bs = length-set (filled at n d bs) (at + n) (d / 256 ^ n % 256) ∙ filled_length at n d bs
 
-held-set_same : (base : ℕ) (bs : List ℕ) (i v x : ℕ) → i < length bs → x ≡ base + i → held base (set bs i v) x ≡ v % 256
+held-set_same : (base : ℕ) (bs : List ℕ) (i v x : ℕ) → i < length bs → x ≡ base + i
+    → byte_at base (set bs i v) x ≡ v % 256
 held-set_same base bs i v x h e =
     let at : x - base ≡ i = omega arith in
     let past : leb base x ≡ true = le-leb base x (omega arith) in
     rw (past, at, get_or-set_same bs i v 0 h)
 
-held-set_other : (base : ℕ) (bs : List ℕ) (i v x : ℕ) → (x ≡ base + i → ⊥) → held base (set bs i v) x ≡ held base bs x
+held-set_other : (base : ℕ) (bs : List ℕ) (i v x : ℕ) → (x ≡ base + i → ⊥)
+    → byte_at base (set bs i v) x ≡ byte_at base bs x
 held-set_other base bs i v x h = go (leb base x) refl
   where
-    go : (b : Bool) → leb base x ≡ b → held base (set bs i v) x ≡ held base bs x
+    go : (b : Bool) → leb base x ≡ b → byte_at base (set bs i v) x ≡ byte_at base bs x
     go false e = rw e
     go true e =
         let past : base ≤ x = leb-true base x e in
         let ne : x - base ≢ i = omega arith in
         rw (get_or-set_other bs i (x - base) v 0 ne)
 
-pub held-filled : (base : ℕ) (bs : List ℕ) (at n d x : ℕ) → at + n ≤ length bs → held base (filled at n d bs) x ≡ stored (base + at) n d (held base bs) x
+pub held-filled : (base : ℕ) (bs : List ℕ) (at n d x : ℕ) → at + n ≤ length bs
+    → byte_at base (filled at n d bs) x ≡ stored_byte (base + at) n d (byte_at base bs) x
 unfolding filled
 held-filled base bs at zero d x h =
     let none : (leb (base + at) x && ltb x (base + at + 0)) ≡ false = grind (arith, nat_tests) in
@@ -47,7 +52,9 @@ held-filled base bs at (suc n) d x h =
     before = filled at n d bs
 
     Goal : Type 0
-    Goal = held base (set before (at + n) (d / 256 ^ n % 256)) x ≡ stored (base + at) (suc n) d (held base bs) x
+    Goal =
+        byte_at base (set before (at + n) (d / 256 ^ n % 256)) x
+        ≡ stored_byte (base + at) (suc n) d (byte_at base bs) x
 
     same : x ≡ base + (at + n) → Goal
     same e =
@@ -56,21 +63,28 @@ held-filled base bs at (suc n) d x h =
         let place : x - (base + at) ≡ n = omega arith in
         held-set_same base before (at + n) (d / 256 ^ n % 256) x fits e ∙ rw (within, place) (omega arith)
 
-    other : held base before x ≡ stored (base + at) n d (held base bs) x → (x ≡ base + (at + n) → ⊥) → Goal
-    other rest ne =
-        let level : (leb (base + at) x && ltb x (base + at + suc n)) ≡ (leb (base + at) x && ltb x (base + at + n)) = grind (arith, nat_tests) in
-        held-set_other base before (at + n) (d / 256 ^ n % 256) x ne ∙ rw level rest
+    level : (x ≡ base + (at + n) → ⊥)
+        → (leb (base + at) x && ltb x (base + at + suc n)) ≡ (leb (base + at) x && ltb x (base + at + n))
+    level ne = grind (arith, nat_tests)
 
-    next : held base before x ≡ stored (base + at) n d (held base bs) x → (x ≡ base + (at + n)) ⊎ (x ≡ base + (at + n) → ⊥) → Goal
+    other : byte_at base before x ≡ stored_byte (base + at) n d (byte_at base bs) x → (x ≡ base + (at + n) → ⊥) → Goal
+    other rest ne =
+        held-set_other base before (at + n) (d / 256 ^ n % 256) x ne ∙ rw (level ne) rest
+
+    next : byte_at base before x ≡ stored_byte (base + at) n d (byte_at base bs) x
+        → (x ≡ base + (at + n)) ⊎ (x ≡ base + (at + n) → ⊥) → Goal
     next rest (inl e) = same e
     next rest (inr ne) = other rest ne
 
 -- a place that `offset` gave
-pub inside : (base n w at : ℕ) → Some at ≡ cond (outside base n w) None (Some (w - base)) → (outside base n w ≡ false) × (w ≡ base + at) × (at + 4 ≤ n)
+pub inside : (base n w at : ℕ) → Some at ≡ cond (is_outside base n w) None (Some (w - base))
+    → (is_outside base n w ≡ false) × (w ≡ base + at) × (at + 4 ≤ n)
 inside base n w at e = grind (arith, nat_tests)
 
 -- the list that a write leaves, width by width
-pub filled_word : (at d : ℕ) (bs : List ℕ) → set (set (set (set bs at (d % 256)) (at + 1) (d / 256 % 256)) (at + 2) (d / 65536 % 256)) (at + 3) (d / 16777216 % 256) ≡ filled at 4 d bs
+pub filled_word : (at d : ℕ) (bs : List ℕ)
+    → set (set (set (set bs at (d % 256)) (at + 1) (d / 256 % 256)) (at + 2) (d / 65536 % 256))
+    (at + 3) (d / 16777216 % 256) ≡ filled at 4 d bs
 unfolding filled
 filled_word at d bs = rw (add-zero, div-one)
 
@@ -83,13 +97,16 @@ unfolding filled
 filled_byte at d bs = rw (add-zero, div-one)
 
 -- what a write does with the bytes of its word, at any width
-pub moves : (base address d at start : ℕ) (w : Width) (bs out : List ℕ) → Some at ≡ cond (outside base (length bs) (word_of address)) None (Some (word_of address - base))
-    → base + start ≡ first w address → start + size w ≤ length bs → out ≡ filled start (size w) d bs → Moves base bs (writing w address d) (Done 0) base out
+pub moves : (base address d at start : ℕ) (w : Width) (bs out : List ℕ)
+    → Some at ≡ cond (is_outside base (length bs) (word_of address)) None (Some (word_of address - base))
+    → base + start ≡ first_address w address → start + byte_count w ≤ length bs
+    → out ≡ filled start (byte_count w) d bs
+    → RegionSteps base bs (write_of w address d) (Done 0) base out
 moves base address d at start w bs out got from fits is =
-    let inner : outside base (length bs) (word_of address) ≡ false = (inside base (length bs) (word_of address) at got).0 in
+    let inner = (inside base (length bs) (word_of address) at got).0 in
     record {
       based = refl;
-      sized = rw is (filled_length start (size w) d bs);
+      sized = rw is (filled_length start (byte_count w) d bs);
       answered = rw inner refl;
-      holds = λ x. rw (is, inner, ← from) (held-filled base bs start (size w) d x fits);
+      holds = λ x. rw (is, inner, ← from) (held-filled base bs start (byte_count w) d x fits);
     }

@@ -1,4 +1,3 @@
-pub mod Keeps
 pub mod Lent
 pub mod Placement
 pub mod Ram

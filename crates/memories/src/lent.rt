@@ -1,7 +1,7 @@
 //! The caller's own bytes after they were lent to a memory.
 
 ghost use Rattle.std.specs.Prelude.{◌≡◌};
-ghost use Rattle.memories.specs.Lent.{Replaced, word_in};
+ghost use Rattle.memories.specs.Lent.{ReplacesWord, word_in};
 
 use super::placement::check_placement;
 use super::ram::Ram;
@@ -12,7 +12,7 @@ use bus::request::{Answer, Request, Width};
 /// there, or where the word lies outside of them; they are then as they were.
 pub fn replace_word(base: u32, bytes: &mut [u8], address: u32, word: u32) -> Option<u32>
     ensures old { result ≡ word_in base bytes.old address }
-    ensures bytes { Replaced base bytes.old address word bytes.new }
+    ensures bytes { ReplacesWord base bytes.old address word bytes.new }
 {
     check_placement(base, bytes.len()).ok()?;
     let mut ram = Ram::new(base, bytes);

@@ -1,11 +1,11 @@
 //! RAM: the caller's bytes at a base.
 
 ghost use Rattle.std.specs.Prelude.{◌≡◌, ◌-◌, length};
-ghost use Rattle.bus.specs.Request.{word_of, first, writing};
-ghost use Rattle.memories.specs.Keeps.Region.{ram_keeps};
-ghost use Rattle.memories.specs.Placement.{placed};
+ghost use Rattle.bus.specs.Meaning.{Keeps};
+ghost use Rattle.bus.specs.Request.{word_of, first_address, write_of};
+ghost use Rattle.memories.specs.Placement.{placed_bytes};
 ghost use Rattle.memories.specs.Ram.{RamSteps, ram_means};
-ghost use Rattle.memories.specs.Region.{Moves, ram};
+ghost use Rattle.memories.specs.Region.{RegionSteps, ram};
 
 use super::placement::placed_length;
 use super::region::{LONGEST_WAIT, Region};
@@ -20,7 +20,7 @@ pub struct Ram<'a> {
 
 /// Where in its word a write begins: a word write ignores two low address bits, a half write one.
 fn lane(width: Width, address: u32) -> usize
-    ensures { result ≡ first width address - word_of address }
+    ensures { result ≡ first_address width address - word_of address }
 {
     let byte = (address % 4) as usize;
     match width {
@@ -33,10 +33,11 @@ fn lane(width: Width, address: u32) -> usize
 impl<'a> Ram<'a> {
     /// RAM that stands at `base`; one at a denied placement refuses everything.
     pub fn new(base: u32, bytes: &'a mut [u8]) -> Ram<'a>
-        ensures means { ram_means result ≡ ram base (placed base bytes.old) }
+        ensures means { ram_means result ≡ ram base (placed_bytes base bytes.old) }
         ensures base { result.base ≡ base }
-        ensures bytes { result.bytes.now ≡ placed base bytes.old }
-        ensures same_reference { length (placed base bytes.old) ≡ length bytes.old → result.bytes.ghost_name ≡ bytes.entry.ghost_name }
+        ensures bytes { result.bytes.now ≡ placed_bytes base bytes.old }
+        ensures same_reference { length (placed_bytes base bytes.old) ≡ length bytes.old
+            → result.bytes.ghost_name ≡ bytes.entry.ghost_name }
     {
         let length = placed_length(base, bytes.len());
         if length == bytes.len() {
@@ -63,7 +64,8 @@ impl Ram<'_> {
 
     fn write(&mut self, width: Width, address: u32, data: u32) -> Answer
         ensures same_reference { self.new.bytes.ghost_name ≡ self.old.bytes.ghost_name }
-        ensures moves { Moves self.old.base self.old.bytes.now (writing width address «data») result self.new.base self.new.bytes.now }
+        ensures moves { RegionSteps self.old.base self.old.bytes.now (write_of width address «data»)
+            result self.new.base self.new.bytes.now }
     {
         let Some(at) = self.region().offset(address) else {
             return Answer::BusError;
@@ -89,7 +91,7 @@ impl Ram<'_> {
     /// One request of bytes that can be read and written.
     pub(crate) fn answer(&mut self, q: Request) -> Answer
         ensures same_reference { self.new.bytes.ghost_name ≡ self.old.bytes.ghost_name }
-        ensures moves { Moves self.old.base self.old.bytes.now q result self.new.base self.new.bytes.now }
+        ensures moves { RegionSteps self.old.base self.old.bytes.now q result self.new.base self.new.bytes.now }
     {
         match q.action {
             Action::Read => self.region().read(q.address),
@@ -103,8 +105,6 @@ impl Bus for Ram<'_> {
 
     ghost steps = { RamSteps };
 
-    ghost keeps = { ram_keeps };
-
     fn request(&mut self, q: Request) -> Answer {
         self.answer(q)
     }
@@ -116,4 +116,8 @@ impl Bus for Ram<'_> {
     fn longest_wait(&self) -> u16 {
         LONGEST_WAIT
     }
+
+    fn keeps()
+        ensures { Keeps ram_means RamSteps }
+    {}
 }

@@ -1,8 +1,8 @@
 //! Bytes that stand at a base, as they are read: what RAM, ROM and scratch have in common.
 
 ghost use Rattle.std.specs.Prelude.{◌≡◌, ◌-◌, length, if◌then◌else◌, Some, None};
-ghost use Rattle.bus.specs.Meaning.{word_at, looked};
-ghost use Rattle.memories.specs.Region.{held, outside, ram};
+ghost use Rattle.bus.specs.Meaning.{word_at, look_result};
+ghost use Rattle.memories.specs.Region.{byte_at, is_outside, ram};
 ghost use Rattle.bus.specs.Request.{word_of};
 ghost use Rattle.bus.specs.declared.request.Answer.TheVariants.{BusError, Done};
 
@@ -21,7 +21,9 @@ pub(crate) struct Region<'a> {
 impl Region<'_> {
     /// Where the word of an address begins within the range, or none where it lies outside.
     pub(crate) fn offset(&self, address: u32) -> Option<usize>
-        ensures { result ≡ (if outside self.now.base (length self.now.bytes.now) (word_of address) then None else Some (word_of address - self.now.base)) }
+        ensures { result ≡ (if is_outside self.now.base (length self.now.bytes.now) (word_of address)
+            then None
+            else Some (word_of address - self.now.base)) }
     {
         let at = word_of(address).checked_sub(self.base)? as usize;
         (at + 4 <= self.bytes.len()).then_some(at)
@@ -29,7 +31,9 @@ impl Region<'_> {
 
     /// The word of an address.
     pub(crate) fn read(&self, address: u32) -> Answer
-        ensures { result ≡ (if outside self.now.base (length self.now.bytes.now) (word_of address) then BusError else Done (word_at (held self.now.base self.now.bytes.now) (word_of address))) }
+        ensures { result ≡ (if is_outside self.now.base (length self.now.bytes.now) (word_of address)
+            then BusError
+            else Done (word_at (byte_at self.now.base self.now.bytes.now) (word_of address))) }
     {
         let Some(at) = self.offset(address) else {
             return Answer::BusError;
@@ -40,7 +44,7 @@ impl Region<'_> {
 
     /// The byte at an address, or none where its word lies outside.
     pub(crate) fn look(&self, address: u32) -> Option<u8>
-        ensures { result ≡ looked (ram self.now.base self.now.bytes.now) address }
+        ensures { result ≡ look_result (ram self.now.base self.now.bytes.now) address }
     {
         let at = self.offset(address)?;
         let bytes = self.bytes;

@@ -1,8 +1,8 @@
 //! ROM: the caller's bytes at a base, never written.
 
 ghost use Rattle.std.specs.Prelude.{◌≡◌};
-ghost use Rattle.memories.specs.Keeps.Region.{rom_keeps};
-ghost use Rattle.memories.specs.Placement.{placed};
+ghost use Rattle.bus.specs.Meaning.{Keeps};
+ghost use Rattle.memories.specs.Placement.{placed_bytes};
 ghost use Rattle.memories.specs.Rom.{RomSteps, rom, rom_means};
 
 use super::placement::placed_length;
@@ -18,7 +18,7 @@ pub struct Rom<'a> {
 impl<'a> Rom<'a> {
     /// ROM that stands at `base`; one at a denied placement refuses everything.
     pub fn new(base: u32, bytes: &'a [u8]) -> Rom<'a>
-        ensures { rom_means result ≡ rom base (placed base bytes.now) }
+        ensures { rom_means result ≡ rom base (placed_bytes base bytes.now) }
     {
         let length = placed_length(base, bytes.len());
         Rom {
@@ -35,8 +35,6 @@ impl Bus for Rom<'_> {
 
     ghost steps = { RomSteps };
 
-    ghost keeps = { rom_keeps };
-
     fn request(&mut self, q: Request) -> Answer {
         match q.action {
             Action::Read => self.region.read(q.address),
@@ -51,4 +49,8 @@ impl Bus for Rom<'_> {
     fn longest_wait(&self) -> u16 {
         LONGEST_WAIT
     }
+
+    fn keeps()
+        ensures { Keeps rom_means RomSteps }
+    {}
 }

@@ -1,8 +1,7 @@
 //! Scratch: 64 words of its own at a base, zero at first.
 
 ghost use Rattle.std.specs.Prelude.{◌≡◌, replicate};
-ghost use Rattle.memories.specs.Keeps.Region.{scratch_keeps};
-ghost use Rattle.memories.specs.Placement.{placed};
+ghost use Rattle.memories.specs.Placement.{placed_bytes};
 ghost use Rattle.memories.specs.Region.{ram};
 ghost use Rattle.memories.specs.Scratch.{ScratchSteps, scratch_means};
 
@@ -25,7 +24,7 @@ pub struct Scratch {
 impl Scratch {
     /// Zeroed scratch that stands at `base`; one at a denied placement refuses everything.
     pub fn new(base: u32) -> Scratch
-        ensures { scratch_means result ≡ ram base (placed base (replicate 256 0)) }
+        ensures { scratch_means result ≡ ram base (placed_bytes base (replicate 256 0)) }
     {
         let stands = check_placement(base, LENGTH).is_ok();
         Scratch {
@@ -39,8 +38,6 @@ impl Bus for Scratch {
     ghost means = { scratch_means };
 
     ghost steps = { ScratchSteps };
-
-    ghost keeps = { scratch_keeps };
 
     fn request(&mut self, q: Request) -> Answer {
         let base = self.base;
@@ -59,4 +56,6 @@ impl Bus for Scratch {
     fn longest_wait(&self) -> u16 {
         LONGEST_WAIT
     }
+
+    fn keeps() {}
 }

@@ -1,6 +1,6 @@
 -- One cycle that is not frozen. Assumes nothing.
 use Rattle.std.specs.Prelude.{ℕ, ◌+◌, ◌*◌, ◌/◌, ◌%◌, ◌^◌, Bool, true, false, cond, not, ◌&&◌, ◌||◌, List, replicate, is_some, Some, None, Option}
-use Rattle.bus.specs.Request.{reading, writing}
+use Rattle.bus.specs.Request.{read_of, write_of}
 use Rattle.bus.specs.declared.request.Answer.{Answer}
 use Rattle.bus.specs.declared.request.Answer.TheVariants.{BusError, Done}
 use Rattle.bus.specs.declared.request.Request.{Request}
@@ -65,11 +65,11 @@ operand_y dt g y.Cx = 0x80000080
 -- the access that a row has in its field
 abbrev pub access : Regs → Transfer → ℕ → Option Request
 access g m.Nop res = None
-access g m.If res = Some (reading g.pc)
-access g m.Ww res = Some (writing Word g.ad res)
-access g m.Wh res = Some (writing Half g.ad res)
-access g m.Wb res = Some (writing Byte g.ad res)
-access g m.Lw res = Some (reading g.ad)
+access g m.If res = Some (read_of g.pc)
+access g m.Ww res = Some (write_of Word g.ad res)
+access g m.Wh res = Some (write_of Half g.ad res)
+access g m.Wb res = Some (write_of Byte g.ad res)
+access g m.Lw res = Some (read_of g.ad)
 
 -- the request that is made of it: none where a flag was up before
 abbrev pub requested : Option Fault → Option Request → Option Request

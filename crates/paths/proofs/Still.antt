@@ -1,7 +1,7 @@
 -- A memory without waits changes its bytes as the bus says. Assumes nothing.
 use Rattle.std.proofs.Common.{◌≡◌, ℕ, Bool, true, false, cond, Some, refl}
-use Rattle.bus.specs.Meaning.{after, stored}
-use Rattle.bus.specs.Request.{first, size, word_of}
+use Rattle.bus.specs.Meaning.{byte_after, stored_byte}
+use Rattle.bus.specs.Request.{first_address, byte_count, word_of}
 use Rattle.bus.specs.declared.request.Action.{Action}
 use Rattle.bus.specs.declared.request.Action.TheVariants as action
 use Rattle.book.specs.Book.{Refusals}
@@ -15,9 +15,9 @@ apply : (t : Bool) (f h : ℕ → ℕ) (x : ℕ) → cond t f h x ≡ cond t (f 
 apply true f h x = refl
 apply false f h x = refl
 
-by_action : (r : Refusals) (bytes : ℕ → ℕ) (address : ℕ) (y : Action) (x : ℕ) → changed (still r bytes) (Some (record { address = address; action = y })) x ≡ after (still r bytes) (record { address = address; action = y }) x
+by_action : (r : Refusals) (bytes : ℕ → ℕ) (address : ℕ) (y : Action) (x : ℕ) → changed (still r bytes) (Some (record { address = address; action = y })) x ≡ byte_after (still r bytes) (record { address = address; action = y }) x
 by_action r bytes address action.Read x = either (r.unreadable (word_of address)) (bytes x)
-by_action r bytes address (action.Write w d) x = apply (r.unwritable (word_of address)) bytes (stored (first w address) (size w) d bytes) x
+by_action r bytes address (action.Write w d) x = apply (r.unwritable (word_of address)) bytes (stored_byte (first_address w address) (byte_count w) d bytes) x
 
 pub still_keeps : StillKeeps
 still_keeps r bytes q x = by_action r bytes q.address q.action x

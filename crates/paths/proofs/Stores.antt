@@ -1,7 +1,7 @@
 -- Stores. Assumes nothing.
 use Rattle.std.proofs.Common.{◌≡◌, ℕ, ◌+◌, ◌*◌, ◌%◌, ◌^◌, Bool, true, false, cond, [], ◌∷◌, Some, None, Option, refl, ap, ◌∙◌}
-use Rattle.bus.specs.Meaning.{stored, word_at}
-use Rattle.bus.specs.Request.{first, size, word_of}
+use Rattle.bus.specs.Meaning.{stored_byte, word_at}
+use Rattle.bus.specs.Request.{first_address, byte_count, word_of}
 use Rattle.bus.specs.declared.request.Answer.TheVariants.{BusError, Done}
 use Rattle.bus.specs.declared.request.Width.{Width}
 use Rattle.bus.specs.declared.request.Width.TheVariants.{Word, Half, Byte}
@@ -61,7 +61,7 @@ writing w = row x.Rt y.C0 Sum r.Nop (storing w) e.Dbe s.Next 15
 abbrev writes : Refusals → Book → Width → Regs → Made
 writes deny b w g =
     cond (deny.unwritable (word_of g.ad)) (met b f.Dbe g)
-    (record { regs = g; ledger = b.ledger; bytes = stored (first w g.ad) (size w) (reg g (rt g.ir)) b.bytes; fault = None; mask = g.sr })
+    (record { regs = g; ledger = b.ledger; bytes = stored_byte (first_address w g.ad) (byte_count w) (reg g (rt g.ir)) b.bytes; fault = None; mask = g.sr })
 
 -- with a fault up the rows change nothing
 faulted : (deny : Refusals) (lines : ℕ) (b : Book) (g : Regs) (dt : ℕ) (c : Fault) (w : Width) (k : ℕ) → walk deny lines ((k, writing w) ∷ (15, fetch) ∷ []) (amid b g dt (Some c) k) ≡ ending lines (fetches deny (met b c g)) dt
@@ -94,17 +94,17 @@ fetch_after deny lines b g dt new true = refl
 fetch_after deny lines b g dt new false = fetch_by lines (amid b g dt None 15).state new (word_at new (word_of g.pc)) (deny.unreadable (word_of g.pc)) refl
 
 -- the write
-write_row : (deny : Refusals) (lines : ℕ) (b : Book) (g : Regs) (dt : ℕ) (w : Width) (k : ℕ) (h : (reg g (rt g.ir) + 0) % 2 ^ 32 ≡ reg g (rt g.ir)) → walk deny lines ((k, writing w) ∷ []) (amid b g dt None k) ≡ among b (cond (deny.unwritable (word_of g.ad)) b.bytes (stored (first w g.ad) (size w) (reg g (rt g.ir)) b.bytes)) g dt (when (deny.unwritable (word_of g.ad)) f.Dbe) 15
-write_row deny lines b g dt Word k h = write_by lines b g dt k Word b.bytes (stored (first Word g.ad) 4 ((reg g (rt g.ir) + 0) % 2 ^ 32) b.bytes) (worked (writing Word) (amid b g dt None k).state) (deny.unwritable (word_of g.ad)) ∙ ap (λ n. among b (cond (deny.unwritable (word_of g.ad)) b.bytes (stored (first Word g.ad) 4 n b.bytes)) g dt (when (deny.unwritable (word_of g.ad)) f.Dbe) 15) h
-write_row deny lines b g dt Half k h = write_by lines b g dt k Half b.bytes (stored (first Half g.ad) 2 ((reg g (rt g.ir) + 0) % 2 ^ 32) b.bytes) (worked (writing Half) (amid b g dt None k).state) (deny.unwritable (word_of g.ad)) ∙ ap (λ n. among b (cond (deny.unwritable (word_of g.ad)) b.bytes (stored (first Half g.ad) 2 n b.bytes)) g dt (when (deny.unwritable (word_of g.ad)) f.Dbe) 15) h
-write_row deny lines b g dt Byte k h = write_by lines b g dt k Byte b.bytes (stored (first Byte g.ad) 1 ((reg g (rt g.ir) + 0) % 2 ^ 32) b.bytes) (worked (writing Byte) (amid b g dt None k).state) (deny.unwritable (word_of g.ad)) ∙ ap (λ n. among b (cond (deny.unwritable (word_of g.ad)) b.bytes (stored (first Byte g.ad) 1 n b.bytes)) g dt (when (deny.unwritable (word_of g.ad)) f.Dbe) 15) h
+write_row : (deny : Refusals) (lines : ℕ) (b : Book) (g : Regs) (dt : ℕ) (w : Width) (k : ℕ) (h : (reg g (rt g.ir) + 0) % 2 ^ 32 ≡ reg g (rt g.ir)) → walk deny lines ((k, writing w) ∷ []) (amid b g dt None k) ≡ among b (cond (deny.unwritable (word_of g.ad)) b.bytes (stored_byte (first_address w g.ad) (byte_count w) (reg g (rt g.ir)) b.bytes)) g dt (when (deny.unwritable (word_of g.ad)) f.Dbe) 15
+write_row deny lines b g dt Word k h = write_by lines b g dt k Word b.bytes (stored_byte (first_address Word g.ad) 4 ((reg g (rt g.ir) + 0) % 2 ^ 32) b.bytes) (worked (writing Word) (amid b g dt None k).state) (deny.unwritable (word_of g.ad)) ∙ ap (λ n. among b (cond (deny.unwritable (word_of g.ad)) b.bytes (stored_byte (first_address Word g.ad) 4 n b.bytes)) g dt (when (deny.unwritable (word_of g.ad)) f.Dbe) 15) h
+write_row deny lines b g dt Half k h = write_by lines b g dt k Half b.bytes (stored_byte (first_address Half g.ad) 2 ((reg g (rt g.ir) + 0) % 2 ^ 32) b.bytes) (worked (writing Half) (amid b g dt None k).state) (deny.unwritable (word_of g.ad)) ∙ ap (λ n. among b (cond (deny.unwritable (word_of g.ad)) b.bytes (stored_byte (first_address Half g.ad) 2 n b.bytes)) g dt (when (deny.unwritable (word_of g.ad)) f.Dbe) 15) h
+write_row deny lines b g dt Byte k h = write_by lines b g dt k Byte b.bytes (stored_byte (first_address Byte g.ad) 1 ((reg g (rt g.ir) + 0) % 2 ^ 32) b.bytes) (worked (writing Byte) (amid b g dt None k).state) (deny.unwritable (word_of g.ad)) ∙ ap (λ n. among b (cond (deny.unwritable (word_of g.ad)) b.bytes (stored_byte (first_address Byte g.ad) 1 n b.bytes)) g dt (when (deny.unwritable (word_of g.ad)) f.Dbe) 15) h
 
 -- the write and the fetch, by whether the address was bad
 written_out : (deny : Refusals) (lines : ℕ) (b : Book) (g : Regs) (dt : ℕ) (w : Width) (k : ℕ) (h : (reg g (rt g.ir) + 0) % 2 ^ 32 ≡ reg g (rt g.ir)) (v : Bool) → walk deny lines ((k, writing w) ∷ (15, fetch) ∷ []) (amid b g dt (when v f.Ades) k) ≡ ending lines (fetches deny (cond v (met b f.Ades g) (writes deny b w g))) dt
 written_out deny lines b g dt w k h true = faulted deny lines b g dt f.Ades w k
 written_out deny lines b g dt w k h false =
     ap (walk deny lines ((15, fetch) ∷ [])) (write_row deny lines b g dt w k h)
-    ∙ fetch_after deny lines b g dt (stored (first w g.ad) (size w) (reg g (rt g.ir)) b.bytes) (deny.unwritable (word_of g.ad))
+    ∙ fetch_after deny lines b g dt (stored_byte (first_address w g.ad) (byte_count w) (reg g (rt g.ir)) b.bytes) (deny.unwritable (word_of g.ad))
 
 module _ (deny : Refusals) (lines : ℕ) (b : Book) (dt : ℕ) (fit : Fit b) (law : WordsStayWords) where
   abbrev g : Regs

@@ -1,8 +1,8 @@
 -- The microprogram with a memory that never waits. Assumes nothing.
 use Rattle.std.specs.Prelude.{◌≡◌, ℕ, zero, suc, cond, Some, None, Option}
 use Rattle.std.specs.Option.{option_map}
-use Rattle.bus.specs.Meaning.{Meaning, after, answer, refused, stored}
-use Rattle.bus.specs.Request.{first, size}
+use Rattle.bus.specs.Meaning.{Meaning, byte_after, answer, is_refused, stored_byte}
+use Rattle.bus.specs.Request.{first_address, byte_count}
 use Rattle.bus.specs.declared.request.Action.TheVariants as action
 use Rattle.bus.specs.declared.request.Request.{Request}
 use Rattle.rows.specs.Rows.{row_at}
@@ -23,11 +23,11 @@ still r bytes = record { byte = bytes; unreadable = r.unreadable; unwritable = r
 abbrev pub changed : Meaning → Option Request → ℕ → ℕ
 changed m None = m.byte
 changed m (Some q) =
-    elim q.action [ action.Read ↦ m.byte | action.Write w d ↦ cond (refused m q) m.byte (stored (first w q.address) (size w) d m.byte) ]
+    elim q.action [ action.Read ↦ m.byte | action.Write w d ↦ cond (is_refused m q) m.byte (stored_byte (first_address w q.address) (byte_count w) d m.byte) ]
 
 -- that is what the bus says of the bytes after a request
 abbrev pub StillKeeps : Type 0
-StillKeeps = (r : Refusals) (bytes : ℕ → ℕ) (q : Request) (x : ℕ) → changed (still r bytes) (Some q) x ≡ after (still r bytes) q x
+StillKeeps = (r : Refusals) (bytes : ℕ → ℕ) (q : Request) (x : ℕ) → changed (still r bytes) (Some q) x ≡ byte_after (still r bytes) q x
 
 -- one cycle in a row
 abbrev pub ticked : Row → Refusals → ℕ → World → World

@@ -8,7 +8,7 @@ use Rattle.layers.specs.Split.{SplitSteps, split, split_means}
 use Rattle.layers.specs.declared.delay.Delay.{Delay}
 use Rattle.layers.specs.declared.delay.State.TheVariants.{Idle}
 use Rattle.layers.specs.declared.split.Split.{Split}
-use Rattle.memories.specs.Placement.{placed}
+use Rattle.memories.specs.Placement.{placed_bytes}
 use Rattle.memories.specs.Ram.{RamSteps, ram_means}
 use Rattle.memories.specs.Region.{ram}
 use Rattle.memories.specs.declared.ram.Ram.{Ram}
@@ -26,13 +26,14 @@ high_base = 0xBFC00000
 abbrev pub high_length : ℕ
 high_length = 4096
 
-abbrev pub mark : ℕ
-mark = 0xA0000000
+abbrev pub split_mark : ℕ
+split_mark = 0xA0000000
 
 -- RAM of the low and of the high bytes, with one wait for each request
 abbrev pub job_pile : List ℕ → List ℕ → Meaning
 job_pile low high =
-    delay 1 Idle (split mark (ram low_base (placed low_base low)) (ram high_base (placed high_base high)))
+    delay 1 Idle
+    (split split_mark (ram low_base (placed_bytes low_base low)) (ram high_base (placed_bytes high_base high)))
 
 -- a delay over a split of two RAMs: what it means, and how it goes on
 abbrev pub pile_means : Delay (Split Ram Ram) → Meaning

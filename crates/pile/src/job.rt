@@ -1,10 +1,11 @@
 //! One wait for each request, over two RAMs side by side.
 
 ghost use Rattle.std.specs.Prelude.{◌≡◌, replicate};
-ghost use Rattle.bus.specs.Decided.{Decided};
-ghost use Rattle.pile.specs.Decided.{next};
+ghost use Rattle.bus.specs.Decided.{IsDecided};
+ghost use Rattle.pile.specs.Decided.{meaning_after};
 ghost use Rattle.pile.specs.Job.{PileSteps, high_length, job_pile, low_length, pile_means};
 
+use bus::memory::Bus;
 use layers::delay::Delay;
 use layers::split::Split;
 use memories::ram::Ram;
@@ -54,5 +55,7 @@ impl Memories {
 /// The pile is decided: each request makes of what it means exactly the next meaning. A proof and no code: the crates
 /// above call it for its contract. `Decided` is of `Rattle.bus.specs.Decided`.
 pub fn goes_on()
-    ensures { Decided pile_means PileSteps next }
-{}
+    ensures { IsDecided pile_means PileSteps meaning_after }
+{
+    Pile::keeps();
+}

@@ -1,5 +1,6 @@
 -- A core is on the way of the book's step: so many ticks past the last boundary. Assumes nothing.
-use Rattle.std.proofs.Common.{◌≡◌, ℕ, zero, suc, ◌+◌, ◌<◌, Bool, true, false, cond, ◌⊎◌, ◌∷◌, length, Option, sym, refl, ap, ◌∙◌, subst, ap₂, inl, inr, add-one, arith}
+use Rattle.std.proofs.Common.{◌≡◌, ℕ, zero, suc, ◌+◌, ◌<◌, Bool, true, false, cond, ◌⊎◌, ◌∷◌, length, Option, sym}
+use Rattle.std.proofs.Common.{refl, ap, ◌∙◌, subst, ap₂, inl, inr, add-one, arith}
 use Rattle.std.proofs.lemmas.Bool.{both_ways, cases_eq, cond-false}
 use Rattle.bus.specs.Meaning.{Keeps, Meaning}
 use Rattle.bus.specs.declared.request.Answer.{Answer}
@@ -10,20 +11,31 @@ use Rattle.microprogram.specs.Cycle.{State, advanced, asked, ends, powered}
 use Rattle.book.specs.Length.{length_of}
 use Rattle.book.specs.Fit.{Fit}
 use Rattle.paths.specs.Path.{Stands, Walks, ends_path, stand}
-use Rattle.r3000.specs.Counts.{counted}
-use Rattle.r3000.specs.Cycle.{Cycle}
-use Rattle.r3000.specs.Machine.{History, Machine, built, fresh, hand, with_lines}
-use Rattle.r3000.specs.Promise.{Agrees, book_after, lengths, refusals}
+use Rattle.microprogram.specs.Cycle.{State, advanced, ends, powered}
+use Rattle.r3000.specs.Counts.{report_after}
+use Rattle.r3000.specs.Cycle.{Cycle, next_request}
+use Rattle.r3000.specs.Machine.{History, Machine, core_at_power_up, no_history, current_row, with_lines}
+use Rattle.r3000.specs.Promise.{Agrees, book_after, total_length, refusals}
 use Rattle.r3000.proofs.Below.{Below}
 use Rattle.r3000.proofs.Answered.{fixed, no_tick, one_tick, world}
+use Rattle.r3000.proofs.Parts.{history_of, report_of}
 use Rattle.r3000.proofs.Successors.{no_lines}
 use Rattle.rows.specs.Rows.{row_at}
 use Rattle.rows.specs.declared.row.Row.{Row}
 
 -- before a boundary a cycle does not depend on the lines
-no_choice : (w : Row) (l k : ℕ) (work : ℕ × Bool × Bool) (a : Option Answer) (c : State) → ends w.sequencing ≡ false → advanced w l work a c ≡ advanced w k work a c
+no_choice : (w : Row) (l k : ℕ) (work : ℕ × Bool × Bool) (a : Option Answer) (c : State) → ends w.sequencing ≡ false
+    → advanced w l work a c ≡ advanced w k work a c
 no_choice w l k work a c e =
-    ap₂ (λ row lines. record { regs = (advanced w l work a c).regs; dt = (advanced w l work a c).dt; flag = (advanced w l work a c).flag; row = row; lines = lines; ledger = (advanced w l work a c).ledger })
+    ap₂ (λ row lines.
+    record {
+      regs = (advanced w l work a c).regs;
+      dt = (advanced w l work a c).dt;
+      flag = (advanced w l work a c).flag;
+      row = row;
+      lines = lines;
+      ledger = (advanced w l work a c).ledger;
+    })
     (no_lines w.sequencing w.amic c.regs work.0 work.2 _ l k e)
     (cond-false (ends w.sequencing) l c.lines e ∙ sym (cond-false (ends w.sequencing) k c.lines e))
 
@@ -37,27 +49,34 @@ module _ (r : Refusals) where
   -- a tick that is no boundary does not depend on the lines
   same_tick : (l k : ℕ) (s : World) → ends_path s ≡ false → tick r l s ≡ tick r k s
   unfolding tick
-  same_tick l k s e = ap (λ t. record { state = t; bytes = (tick r l s).bytes }) (no_choice (row_at s.state.row) l k _ _ s.state e)
+  same_tick l k s e =
+      ap (λ t. record { state = t; bytes = (tick r l s).bytes }) (no_choice (row_at s.state.row) l k _ _ s.state e)
 
-module _ {S : Type 0} {means : S → Meaning} {steps : S → Request → Answer → S → Type 0} (below : Below) (keeps : Keeps means steps) (start : S) where
+module _ {S : Type 0} {means : S → Meaning} {steps : S → Request → Answer → S → Type 0} (below : Below)
+    (keeps : Keeps means steps) (start : S) where
   -- the book after the boundaries of a history
   abbrev book : History → Book
   book h = book_after (means start) h.lines
 
-  -- the core is as many ticks past where the microprogram stood at the book's state as its place says, and the lines do not matter
+  -- the core is as many ticks past where the microprogram stood at the book's state as its place says, and the lines
+  -- do not matter
   pub record OnTheWay (h : History) (c : Machine S) : Type 0 where
     pub refuses : refusals (means c.pile) ≡ refusals (means start)
     pub fit : Fit (book h)
     pub from : World
     pub stands : Stands (book h) from
-    pub ticked : (l : ℕ) → world below.memory keeps c ≡ ticks (refusals (means start)) l c.report.place from
-    pub short : c.report.place < length_of (book h) (book h).event
-    pub boundaries : length h.lines ≡ c.report.boundaries
-    pub sum : c.report.cycles ≡ c.report.frozen + lengths (means start) h.lines + c.report.place
+    pub ticked : (l : ℕ) → world below.memory keeps c ≡ ticks (refusals (means start)) l c.observed.report.place from
+    pub short : c.observed.report.place < length_of (book h) (book h).event
+    pub boundaries : length h.lines ≡ c.observed.report.boundaries
+    pub sum : c.observed.report.cycles
+        ≡ c.observed.report.frozen + total_length (means start) h.lines + c.observed.report.place
 
-  pub way_start : OnTheWay fresh (built start)
+  pub way_start : OnTheWay no_history (core_at_power_up start)
   unfolding ticks
   way_start =
+      let first : Fit (begun (means start).byte)
+      × Stands (begun (means start).byte) (record { state = powered; bytes = (means start).byte }) =
+      below.begins (means start).byte (keeps.sound start).bytes in
       record {
         refuses = refl;
         fit = below.fits (means start).byte (keeps.sound start).bytes;
@@ -71,42 +90,71 @@ module _ {S : Type 0} {means : S → Meaning} {steps : S → Request → Answer 
 
   pub way_lines : (h : History) (c : Machine S) (l : ℕ) → OnTheWay h c → OnTheWay h (with_lines l c)
   way_lines h c l w =
-      record { refuses = w.refuses; fit = w.fit; from = w.from; stands = w.stands; ticked = w.ticked; short = w.short; boundaries = w.boundaries; sum = w.sum }
+      record {
+        refuses = w.refuses;
+        fit = w.fit;
+        from = w.from;
+        stands = w.stands;
+        ticked = w.ticked;
+        short = w.short;
+        boundaries = w.boundaries;
+        sum = w.sum;
+      }
 
   -- what the words that are refused, and the world, are after a cycle
-  still_refuses : (h : History) (c d : Machine S) (f : Bool) → Cycle steps c f d → OnTheWay h c → refusals (means d.pile) ≡ refusals (means start)
-  still_refuses h c d f k w = (fixed below.memory keeps c.pile d.pile (asked (hand c.state) c.state) k.answer k.asks).0 ∙ w.refuses
+  still_refuses : (h : History) (c d : Machine S) (f : Bool) → Cycle steps c f d → OnTheWay h c
+      → refusals (means d.pile) ≡ refusals (means start)
+  still_refuses h c d f k w = (fixed below.memory keeps c.pile d.pile (next_request c) k.answer k.asks).0 ∙ w.refuses
 
-  next_tick : (h : History) (c d : Machine S) → Cycle steps c false d → OnTheWay h c → world below.memory keeps d ≡ tick (refusals (means start)) c.lines (world below.memory keeps c)
-  next_tick h c d k w = one_tick below.memory keeps c d k ∙ ap (λ r. tick r c.lines (world below.memory keeps c)) w.refuses
+  next_tick : (h : History) (c d : Machine S) → Cycle steps c false d → OnTheWay h c
+      → world below.memory keeps d ≡ tick (refusals (means start)) c.processor.lines (world below.memory keeps c)
+  next_tick h c d k w =
+      one_tick below.memory keeps c d k ∙ ap (λ r. tick r c.processor.lines (world below.memory keeps c)) w.refuses
 
   -- a frozen cycle leaves the core where it is
-  way_frozen : (h : History) (c d : Machine S) → Cycle steps c true d → OnTheWay h c → OnTheWay (record { lines = h.lines; since = h.since + 1 }) d
+  way_frozen : (h : History) (c d : Machine S) → Cycle steps c true d → OnTheWay h c
+      → OnTheWay (record { lines = h.lines; since = h.since + 1 }) d
   way_frozen h c d k w =
       record {
         refuses = still_refuses h c d true k w;
         fit = w.fit;
         from = w.from;
         stands = w.stands;
-        ticked = λ l. no_tick below.memory keeps c d k ∙ w.ticked l ∙ ap (λ n. ticks (refusals (means start)) l n.place w.from) (sym k.report);
-        short = subst (λ n. n.place < length_of (book h) (book h).event) (sym k.report) w.short;
-        boundaries = w.boundaries ∙ ap (λ n. n.boundaries) (sym k.report);
-        sum = subst (λ n. n.cycles ≡ n.frozen + lengths (means start) h.lines + n.place) (sym k.report) (omega (arith, w.sum));
+        ticked =
+            λ l. no_tick below.memory keeps c d k ∙ w.ticked l
+            ∙ ap (λ n. ticks (refusals (means start)) l n.place w.from) (sym (report_of k));
+        short = subst (λ n. n.place < length_of (book h) (book h).event) (sym (report_of k)) w.short;
+        boundaries = w.boundaries ∙ ap (λ n. n.boundaries) (sym (report_of k));
+        sum =
+            subst (λ n. n.cycles ≡ n.frozen + total_length (means start) h.lines + n.place) (sym (report_of k))
+            (omega (arith, w.sum));
       }
 
   -- the step of the book that is under way
-  walking : (h : History) (c : Machine S) (w : OnTheWay h c) → Walks (refusals (means start)) c.lines (book h) w.from
-  walking h c w = below.paths (refusals (means start)) c.lines (book h) w.fit w.from w.stands
+  walking : (h : History) (c : Machine S) (w : OnTheWay h c)
+      → Walks (refusals (means start)) c.processor.lines (book h) w.from
+  walking h c w = below.paths (refusals (means start)) c.processor.lines (book h) w.fit w.from w.stands
 
   -- whether this cycle ends it
-  ending_here : (h : History) (c : Machine S) (w : OnTheWay h c) → ends (hand c.state).sequencing ≡ ends_path (ticks (refusals (means start)) c.lines c.report.place w.from)
-  ending_here h c w = ap ends_path (w.ticked c.lines)
+  ending_here : (h : History) (c : Machine S) (w : OnTheWay h c)
+      → ends (current_row c.processor.state).sequencing
+      ≡ ends_path (ticks (refusals (means start)) c.processor.lines c.observed.report.place w.from)
+  ending_here h c w = ap ends_path (w.ticked c.processor.lines)
 
   -- an unfrozen cycle within a step
-  way_on : (h : History) (c d : Machine S) → Cycle steps c false d → ends (hand c.state).sequencing ≡ false → OnTheWay h c → OnTheWay (record { lines = h.lines; since = h.since + 1 }) d
+  way_on : (h : History) (c d : Machine S) → Cycle steps c false d
+      → ends (current_row c.processor.state).sequencing ≡ false → OnTheWay h c
+      → OnTheWay (record { lines = h.lines; since = h.since + 1 }) d
   way_on h c d k e w =
-      let n : ℕ = c.report.place in
-      let count : d.report ≡ record { cycles = c.report.cycles + 1; frozen = c.report.frozen; boundaries = c.report.boundaries; place = n + 1 } = k.report ∙ ap (λ b. counted false b c.report) e in
+      let n : ℕ = c.observed.report.place in
+      let count : d.observed.report
+      ≡ record {
+        cycles = c.observed.report.cycles + 1;
+        frozen = c.observed.report.frozen;
+        boundaries = c.observed.report.boundaries;
+        place = n + 1;
+      } =
+      report_of k ∙ ap (λ b. report_after false b c.observed.report) e in
       record {
         refuses = still_refuses h c d false k w;
         fit = w.fit;
@@ -114,58 +162,106 @@ module _ {S : Type 0} {means : S → Meaning} {steps : S → Request → Answer 
         stands = w.stands;
         ticked = λ l.
             next_tick h c d k w
-            ∙ same_tick (refusals (means start)) c.lines l (world below.memory keeps c) e
+            ∙ same_tick (refusals (means start)) c.processor.lines l (world below.memory keeps c) e
             ∙ ap (tick (refusals (means start)) l) (w.ticked l)
             ∙ sym (ticks_more (refusals (means start)) l n w.from)
             ∙ ap (λ p. ticks (refusals (means start)) l p w.from) (sym (add-one n) ∙ ap (λ m. m.place) (sym count));
-        short = subst (λ m. m.place < length_of (book h) (book h).event) (sym count) (further (cases_eq (n + 1) (length_of (book h) (book h).event)));
+        short =
+            subst (λ m. m.place < length_of (book h) (book h).event) (sym count)
+            (further (cases_eq (n + 1) (length_of (book h) (book h).event)));
         boundaries = w.boundaries ∙ ap (λ m. m.boundaries) (sym count);
-        sum = subst (λ m. m.cycles ≡ m.frozen + lengths (means start) h.lines + m.place) (sym count) (omega (arith, w.sum));
+        sum =
+            subst (λ m. m.cycles ≡ m.frozen + total_length (means start) h.lines + m.place) (sym count)
+            (omega (arith, w.sum));
       }
     where
-      further : (c.report.place + 1 ≡ length_of (book h) (book h).event) ⊎ (c.report.place + 1 ≡ length_of (book h) (book h).event → ⊥) → c.report.place + 1 < length_of (book h) (book h).event
-      further (inl last) = absurd (both_ways _ (sym (ending_here h c w) ∙ e) ((walking h c w).ending c.report.place last))
+      further : (c.observed.report.place + 1 ≡ length_of (book h) (book h).event)
+          ⊎ (c.observed.report.place + 1 ≡ length_of (book h) (book h).event → ⊥)
+          → c.observed.report.place + 1 < length_of (book h) (book h).event
+      further (inl last) =
+          absurd (both_ways _ (sym (ending_here h c w) ∙ e) ((walking h c w).ending c.observed.report.place last))
       further (inr more) = omega (arith, w.short)
 
   -- an unfrozen cycle that ends it: a boundary
-  way_over : (h : History) (c d : Machine S) → Cycle steps c false d → ends (hand c.state).sequencing ≡ true → OnTheWay h c → OnTheWay (record { lines = c.lines ∷ h.lines; since = 0 }) d
+  way_over : (h : History) (c d : Machine S) → Cycle steps c false d
+      → ends (current_row c.processor.state).sequencing ≡ true → OnTheWay h c
+      → OnTheWay (record { lines = c.processor.lines ∷ h.lines; since = 0 }) d
   unfolding ticks
   way_over h c d k e w =
-      let n : ℕ = c.report.place in
-      let count : d.report ≡ record { cycles = c.report.cycles + 1; frozen = c.report.frozen; boundaries = c.report.boundaries + 1; place = 0 } = k.report ∙ ap (λ b. counted false b c.report) e in
-      let whole : n + 1 ≡ length_of (book h) (book h).event = last (cases_eq (n + 1) (length_of (book h) (book h).event)) in
-      let arrived : world below.memory keeps d ≡ ticks (refusals (means start)) c.lines (length_of (book h) (book h).event) w.from =
+      let n : ℕ = c.observed.report.place in
+      let count : d.observed.report
+      ≡ record {
+        cycles = c.observed.report.cycles + 1;
+        frozen = c.observed.report.frozen;
+        boundaries = c.observed.report.boundaries + 1;
+        place = 0;
+      } =
+      report_of k ∙ ap (λ b. report_after false b c.observed.report) e in
+      let whole : n + 1 ≡ length_of (book h) (book h).event =
+      last (cases_eq (n + 1) (length_of (book h) (book h).event)) in
+      let arrived : world below.memory keeps d
+      ≡ ticks (refusals (means start)) c.processor.lines (length_of (book h) (book h).event) w.from =
       next_tick h c d k w
-      ∙ ap (tick (refusals (means start)) c.lines) (w.ticked c.lines)
-      ∙ sym (ticks_more (refusals (means start)) c.lines n w.from)
-      ∙ ap (λ p. ticks (refusals (means start)) c.lines p w.from) (sym (add-one n) ∙ whole)
+      ∙ ap (tick (refusals (means start)) c.processor.lines) (w.ticked c.processor.lines)
+      ∙ sym (ticks_more (refusals (means start)) c.processor.lines n w.from)
+      ∙ ap (λ p. ticks (refusals (means start)) c.processor.lines p w.from) (sym (add-one n) ∙ whole)
       in
       record {
         refuses = still_refuses h c d false k w;
-        fit = below.words (refusals (means start)) c.lines (book h) w.fit;
+        fit = below.words (refusals (means start)) c.processor.lines (book h) w.fit;
         from = world below.memory keeps d;
-        stands = subst (λ s. Stands (step (refusals (means start)) c.lines (book h)) s) (sym arrived) (walking h c w).arrives;
-        ticked = λ l. ap (λ p. ticks (refusals (means start)) l p (world below.memory keeps d)) (ap (λ m. m.place) (sym count));
-        short = subst (λ m. m.place < length_of (step (refusals (means start)) c.lines (book h)) (step (refusals (means start)) c.lines (book h)).event) (sym count) (below.some (step (refusals (means start)) c.lines (book h)) (step (refusals (means start)) c.lines (book h)).event);
+        stands =
+            subst (λ s. Stands (step (refusals (means start)) c.processor.lines (book h)) s) (sym arrived)
+            (walking h c w).arrives;
+        ticked =
+            λ l. ap (λ p. ticks (refusals (means start)) l p (world below.memory keeps d))
+            (ap (λ m. m.place) (sym count));
+        short =
+            subst
+            (λ m.
+            m.place
+            < length_of (step (refusals (means start)) c.processor.lines (book h))
+            (step (refusals (means start)) c.processor.lines (book h)).event) (sym count)
+            (below.some (step (refusals (means start)) c.processor.lines (book h))
+            (step (refusals (means start)) c.processor.lines (book h)).event);
         boundaries = ap suc w.boundaries ∙ sym (add-one _) ∙ ap (λ m. m.boundaries) (sym count);
-        sum = subst (λ m. m.cycles ≡ m.frozen + lengths (means start) (c.lines ∷ h.lines) + m.place) (sym count) (omega (arith, w.sum));
+        sum =
+            subst (λ m. m.cycles ≡ m.frozen + total_length (means start) (c.processor.lines ∷ h.lines) + m.place)
+            (sym count) (omega (arith, w.sum));
       }
     where
-      last : (c.report.place + 1 ≡ length_of (book h) (book h).event) ⊎ (c.report.place + 1 ≡ length_of (book h) (book h).event → ⊥) → c.report.place + 1 ≡ length_of (book h) (book h).event
+      last : (c.observed.report.place + 1 ≡ length_of (book h) (book h).event)
+          ⊎ (c.observed.report.place + 1 ≡ length_of (book h) (book h).event → ⊥)
+          → c.observed.report.place + 1 ≡ length_of (book h) (book h).event
       last (inl whole) = whole
-      last (inr more) = absurd (both_ways _ ((walking h c w).going c.report.place (omega (arith, w.short))) (sym (ending_here h c w) ∙ e))
+      last (inr more) =
+          absurd
+          (both_ways _ ((walking h c w).going c.observed.report.place (omega (arith, w.short)))
+          (sym (ending_here h c w) ∙ e))
 
-  pub way_cycle : (c d : Machine S) (f : Bool) → Cycle steps c f d → OnTheWay c.history c → OnTheWay d.history d
-  way_cycle c d true k w = subst (λ h. OnTheWay h d) (sym k.history) (way_frozen c.history c d k w)
-  way_cycle c d false k w = subst (λ h. OnTheWay h d) (sym k.history) (by (ends (hand c.state).sequencing) refl)
+  pub way_cycle : (c d : Machine S) (f : Bool) → Cycle steps c f d → OnTheWay c.observed.history c
+      → OnTheWay d.observed.history d
+  way_cycle c d true k w = subst (λ h. OnTheWay h d) (sym (history_of k)) (way_frozen c.observed.history c d k w)
+  way_cycle c d false k w =
+      subst (λ h. OnTheWay h d) (sym (history_of k)) (by (ends (current_row c.processor.state).sequencing) refl)
     where
-      by : (e : Bool) → ends (hand c.state).sequencing ≡ e → OnTheWay (cond {A = History} e (record { lines = c.lines ∷ c.history.lines; since = 0 }) (record { lines = c.history.lines; since = c.history.since + 1 })) d
-      by true e = way_over c.history c d k e w
-      by false e = way_on c.history c d k e w
+      by : (e : Bool) → ends (current_row c.processor.state).sequencing ≡ e
+          → OnTheWay
+          (cond {A = History} e (record { lines = c.processor.lines ∷ c.observed.history.lines; since = 0 })
+          (record { lines = c.observed.history.lines; since = c.observed.history.since + 1 })) d
+      by true e = way_over c.observed.history c d k e w
+      by false e = way_on c.observed.history c d k e w
 
   -- where the place is 0, the core stands at the book's state
-  pub agrees : (h : History) (c : Machine S) → OnTheWay h c → c.report.place ≡ 0 → Agrees (book h) c.state (means c.pile)
+  pub agrees : (h : History) (c : Machine S) → OnTheWay h c → c.observed.report.place ≡ 0
+      → Agrees (book h) c.processor.state (means c.pile)
   unfolding ticks
   agrees h c w z =
-      let same : world below.memory keeps c ≡ stand (book h) w.stands.dt w.stands.row w.stands.flag = w.ticked 0 ∙ ap (λ n. ticks (refusals (means start)) 0 n w.from) z ∙ w.stands.is in
-      record { regs = ap (λ s. s.state.regs) same; lines = ap (λ s. s.state.lines) same; ledger = ap (λ s. s.state.ledger) same; bytes = λ x. ap (λ s. s.bytes x) same }
+      let same : world below.memory keeps c ≡ stand (book h) w.stands.dt w.stands.row w.stands.flag =
+      w.ticked 0 ∙ ap (λ n. ticks (refusals (means start)) 0 n w.from) z ∙ w.stands.is in
+      record {
+        regs = ap (λ s. s.state.regs) same;
+        lines = ap (λ s. s.state.lines) same;
+        ledger = ap (λ s. s.state.ledger) same;
+        bytes = λ x. ap (λ s. s.bytes x) same;
+      }

@@ -3,7 +3,7 @@ use Rattle.std.proofs.Common.{◌≡◌, ℕ, ◌+◌, Bool, true, false, cond, 
 use mathlib.Core.Path.{fun_ext}
 use Rattle.std.proofs.lemmas.Bool.{true≢false}
 use Rattle.std.specs.Option.{option_map}
-use Rattle.bus.specs.Meaning.{Answers, Keeps, Meaning, after, answer, carried, refused, stalled}
+use Rattle.bus.specs.Meaning.{Answers, Keeps, Meaning, byte_after, answer, done_word, is_refused, is_stalled}
 use Rattle.bus.specs.Request.{access_of}
 use Rattle.bus.specs.declared.request.Answer.{Answer}
 use Rattle.bus.specs.declared.request.Answer.TheVariants.{Wait, BusError, Done}
@@ -11,19 +11,20 @@ use Rattle.bus.specs.declared.request.Request.{Request}
 use Rattle.paths.specs.Instant.{StillKeeps, World, changed, still, tick}
 use Rattle.microprogram.specs.Cycle.{advanced, asked, worked}
 use Rattle.rows.specs.declared.row.Row.{Row}
-use Rattle.r3000.specs.Cycle.{Asks, Cycle, freezes}
-use Rattle.r3000.specs.Machine.{Machine, hand}
+use Rattle.r3000.specs.Cycle.{Asks, Cycle, next_request, is_wait}
+use Rattle.r3000.specs.Machine.{Machine, current_row}
+use Rattle.r3000.proofs.Parts.{state_of}
 use Rattle.r3000.specs.Promise.{refusals}
 
 -- an answer that is no wait was not stalled, and a wait was
 not_wait : (r : Bool) (w : ℕ) → Wait ≡ cond r BusError (Done w) → ⊥
-not_wait true w e = true≢false (ap (λ a. freezes (Some a)) e)
-not_wait false w e = true≢false (ap (λ a. freezes (Some a)) e)
+not_wait true w e = true≢false (ap (λ a. is_wait (Some a)) e)
+not_wait false w e = true≢false (ap (λ a. is_wait (Some a)) e)
 
-pub stalls : (m : Meaning) (q : Request) → freezes (Some (answer m q)) ≡ stalled m q
-stalls m q = by (stalled m q) (refused m q) (carried m q)
+pub stalls : (m : Meaning) (q : Request) → is_wait (Some (answer m q)) ≡ is_stalled m q
+stalls m q = by (is_stalled m q) (is_refused m q) (done_word m q)
   where
-    by : (s r : Bool) (w : ℕ) → freezes (Some (cond s Wait (cond r BusError (Done w)))) ≡ s
+    by : (s r : Bool) (w : ℕ) → is_wait (Some (cond s Wait (cond r BusError (Done w)))) ≡ s
     by true r w = refl
     by false true w = refl
     by false false w = refl
@@ -33,14 +34,15 @@ abbrev pub stilled : Meaning → Meaning
 stilled m = still (refusals m) m.byte
 
 -- where a request is not stalled, answer and bytes are those of a memory without waits
-pub answers_still : (m : Meaning) (q : Request) → stalled m q ≡ false → answer m q ≡ answer (stilled m) q
+pub answers_still : (m : Meaning) (q : Request) → is_stalled m q ≡ false → answer m q ≡ answer (stilled m) q
 answers_still m q e = rw e
 
-pub bytes_still : StillKeeps → (m : Meaning) (q : Request) → stalled m q ≡ false → (x : ℕ) → after m q x ≡ changed (stilled m) (Some q) x
+pub bytes_still : StillKeeps → (m : Meaning) (q : Request) → is_stalled m q ≡ false → (x : ℕ)
+    → byte_after m q x ≡ changed (stilled m) (Some q) x
 bytes_still memory m q e x = (rw e) ∙ sym (memory (refusals m) m.byte q x)
 
 -- where it is stalled, the bytes stay
-pub bytes_stay : (m : Meaning) (q : Request) → stalled m q ≡ true → (x : ℕ) → after m q x ≡ m.byte x
+pub bytes_stay : (m : Meaning) (q : Request) → is_stalled m q ≡ true → (x : ℕ) → byte_after m q x ≡ m.byte x
 bytes_stay m q e x = rw e
 
 -- the waits that the request of a cycle still has
@@ -48,51 +50,65 @@ abbrev pub waiting : Meaning → Option Request → ℕ
 waiting m None = 0
 waiting m (Some q) = m.waits (access_of q)
 
-module _ {S : Type 0} {means : S → Meaning} {steps : S → Request → Answer → S → Type 0} (memory : StillKeeps) (keeps : Keeps means steps) where
+module _ {S : Type 0} {means : S → Meaning} {steps : S → Request → Answer → S → Type 0} (memory : StillKeeps)
+    (keeps : Keeps means steps) where
   -- a request that was answered by something else than wait
-  pub unfrozen : (s t : S) (o : Option Request) (a : Option Answer) → Asks steps s o a t → false ≡ freezes a
+  pub unfrozen : (s t : S) (o : Option Request) (a : Option Answer) → Asks steps s o a t → false ≡ is_wait a
       → (a ≡ option_map (answer (stilled (means s))) o) × ((means t).byte ≡ changed (stilled (means s)) o)
   unfrozen s t None a h e = (h.0, ap (λ p. (means p).byte) h.1)
-  unfrozen s t (Some q) a h e = (h.1 ∙ ap Some (told.answered ∙ answers_still (means s) q free), fun_ext (λ x. told.bytes x ∙ bytes_still memory (means s) q free x))
+  unfrozen s t (Some q) a h e = (
+    h.1 ∙ ap Some (told.answered ∙ answers_still (means s) q free),
+    fun_ext (λ x. told.bytes x ∙ bytes_still memory (means s) q free x),
+  )
     where
       told : Answers (means s) q h.0 (means t)
       told = keeps.tells s q h.0 t h.2
 
-      free : stalled (means s) q ≡ false
-      free = sym (stalls (means s) q) ∙ sym (e ∙ ap freezes (h.1 ∙ ap Some told.answered))
+      free : is_stalled (means s) q ≡ false
+      free = sym (stalls (means s) q) ∙ sym (e ∙ ap is_wait (h.1 ∙ ap Some told.answered))
 
   -- one that was answered by wait
-  pub frozen : (s t : S) (o : Option Request) (a : Option Answer) → Asks steps s o a t → true ≡ freezes a
+  pub frozen : (s t : S) (o : Option Request) (a : Option Answer) → Asks steps s o a t → true ≡ is_wait a
       → ((means t).byte ≡ (means s).byte) × (waiting (means t) o + 1 ≡ waiting (means s) o)
-  frozen s t None a h e = absurd (true≢false (e ∙ ap freezes h.0))
+  frozen s t None a h e = absurd (true≢false (e ∙ ap is_wait h.0))
   frozen s t (Some q) a h e = (fun_ext (λ x. told.bytes x ∙ bytes_stay (means s) q held x), told.counted held)
     where
       told : Answers (means s) q h.0 (means t)
       told = keeps.tells s q h.0 t h.2
 
-      held : stalled (means s) q ≡ true
-      held = sym (stalls (means s) q) ∙ sym (e ∙ ap freezes (h.1 ∙ ap Some told.answered))
+      held : is_stalled (means s) q ≡ true
+      held = sym (stalls (means s) q) ∙ sym (e ∙ ap is_wait (h.1 ∙ ap Some told.answered))
 
   -- what is refused, and W, stay
-  pub fixed : (s t : S) (o : Option Request) (a : Option Answer) → Asks steps s o a t → (refusals (means t) ≡ refusals (means s)) × ((means t).longest ≡ (means s).longest)
+  pub fixed : (s t : S) (o : Option Request) (a : Option Answer) → Asks steps s o a t
+      → (refusals (means t) ≡ refusals (means s)) × ((means t).longest ≡ (means s).longest)
   fixed s t None a h = (ap (λ p. refusals (means p)) h.1, ap (λ p. (means p).longest) h.1)
-  fixed s t (Some q) a h = (ap₂ (λ u w. record { unreadable = u; unwritable = w }) (fun_ext told.unreadable) (fun_ext told.unwritable), told.longest)
+  fixed s t (Some q) a h = (
+    ap₂ (λ u w. record { unreadable = u; unwritable = w }) (fun_ext told.unreadable) (fun_ext told.unwritable),
+    told.longest,
+  )
     where
       told : Answers (means s) q h.0 (means t)
       told = keeps.tells s q h.0 t h.2
 
   -- processor and bytes of a core
   abbrev pub world : Machine S → World
-  world c = record { state = c.state; bytes = (means c.pile).byte }
+  world c = record { state = c.processor.state; bytes = (means c.pile).byte }
 
-  pub one_tick : (c d : Machine S) → Cycle steps c false d → world d ≡ tick (refusals (means c.pile)) c.lines (world c)
+  pub one_tick : (c d : Machine S) → Cycle steps c false d
+      → world d ≡ tick (refusals (means c.pile)) c.processor.lines (world c)
   unfolding tick
   one_tick c d h =
-      let w : Row = hand c.state in
-      ap₂ (λ s b. record { state = s; bytes = b }) (h.state ∙ ap (λ a. advanced w c.lines (worked w c.state) a c.state) now.0) now.1
+      let w : Row = current_row c.processor.state in
+      ap₂ (λ s b. record { state = s; bytes = b })
+      (state_of h ∙ ap (λ a. advanced w c.processor.lines (worked w c.processor.state) a c.processor.state) now.0)
+      now.1
     where
-      now : (h.answer ≡ option_map (answer (stilled (means c.pile))) (asked (hand c.state) c.state)) × ((means d.pile).byte ≡ changed (stilled (means c.pile)) (asked (hand c.state) c.state))
-      now = unfrozen c.pile d.pile (asked (hand c.state) c.state) h.answer h.asks h.freeze
+      now : (h.answer ≡ option_map (answer (stilled (means c.pile))) (next_request c))
+          × ((means d.pile).byte ≡ changed (stilled (means c.pile)) (next_request c))
+      now = unfrozen c.pile d.pile (next_request c) h.answer h.asks h.freeze
 
   pub no_tick : (c d : Machine S) → Cycle steps c true d → world d ≡ world c
-  no_tick c d h = ap₂ (λ s b. record { state = s; bytes = b }) h.state (frozen c.pile d.pile (asked (hand c.state) c.state) h.answer h.asks h.freeze).0
+  no_tick c d h =
+      ap₂ (λ s b. record { state = s; bytes = b }) (state_of h)
+      (frozen c.pile d.pile (next_request c) h.answer h.asks h.freeze).0

@@ -1,7 +1,9 @@
 mod Agreement
 mod Answered
 mod Below
+mod DecidedCycles
 mod Law
+mod Parts
 mod Played
 mod Promptness
 mod Successors

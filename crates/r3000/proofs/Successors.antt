@@ -1,4 +1,5 @@
--- What all listed successors pass the row that follows passes, and before a boundary it does not depend on the lines. Assumes nothing.
+-- What all listed successors pass the row that follows passes, and before a boundary it does not depend on the lines.
+-- Assumes nothing.
 use Rattle.std.proofs.Common.{◌≡◌, ℕ, zero, suc, Bool, false, T, List, [], ◌∷◌, refl, subst, Contains, arith}
 use Rattle.std.proofs.lemmas.Bool.{true≢false}
 use Rattle.microprogram.specs.Bounds.{RowsListed, all, successors}
@@ -14,11 +15,15 @@ each p [] n c h = absurd (omega (arith, c.1))
 each p (m ∷ ms) n (zero, l, e) h = subst (λ k. T (p k)) e (left (p m) (all p ms) h)
 each p (m ∷ ms) n (suc k, l, e) h = each p ms n (k, omega arith, e) (right (p m) (all p ms) h)
 
-pub follows : RowsListed → (p : ℕ → Bool) (q : Sequencing) (amic : ℕ) (g : Regs) (res : ℕ) (zero? : Bool) (lines : ℕ) (flag : Bool) → T (all p (successors q amic)) → T (p (following q amic g res zero? lines flag))
-follows listed p q amic g res z lines flag h = each p (successors q amic) (following q amic g res z lines flag) (listed q amic g res z lines flag) h
+pub follows : RowsListed
+    → (p : ℕ → Bool) (q : Sequencing) (amic : ℕ) (g : Regs) (res : ℕ) (zero? : Bool) (lines : ℕ) (flag : Bool)
+    → T (all p (successors q amic)) → T (p (following q amic g res zero? lines flag))
+follows listed p q amic g res z lines flag h =
+    each p (successors q amic) (following q amic g res z lines flag) (listed q amic g res z lines flag) h
 
 -- only a boundary reads the lines
-pub no_lines : (q : Sequencing) (amic : ℕ) (g : Regs) (res : ℕ) (z : Bool) (flag : Bool) (l k : ℕ) → ends q ≡ false → following q amic g res z l flag ≡ following q amic g res z k flag
+pub no_lines : (q : Sequencing) (amic : ℕ) (g : Regs) (res : ℕ) (z : Bool) (flag : Bool) (l k : ℕ) → ends q ≡ false
+    → following q amic g res z l flag ≡ following q amic g res z k flag
 no_lines s.Next amic g res z flag l k h = refl
 no_lines s.Decod amic g res z flag l k h = refl
 no_lines s.Spec amic g res z flag l k h = refl

@@ -1,5 +1,6 @@
 -- Register 0 stays zero. Assumes nothing.
-use Rattle.std.proofs.Common.{◌≡◌, ℕ, ◌≢◌, Bool, true, false, cond, eqb, List, get_or, set, get_or-set_other, Option, refl, sym}
+use Rattle.std.proofs.Common.{◌≡◌, ℕ, ◌≢◌, Bool, true, false, cond, eqb, List, get_or, set, get_or-set_other, Option}
+use Rattle.std.proofs.Common.{refl, sym}
 use Rattle.std.proofs.lemmas.Bool.{eqb-false}
 use Rattle.bus.specs.declared.request.Answer.{Answer}
 use Rattle.microprogram.specs.Cycle.{State, advanced, written}
@@ -19,7 +20,8 @@ unwritten n v general = by (eqb n 0) refl
     by false e = let other : 0 ≢ n = λ same. eqb-false n 0 e (sym same) in rw get_or-set_other refl
 
 -- and so does every destination
-pub zero_written : (d : Destination) (flag : Option Fault) (res : ℕ) (g : Regs) → reg (written d flag res g) 0 ≡ reg g 0
+pub zero_written : (d : Destination) (flag : Option Fault) (res : ℕ) (g : Regs)
+    → reg (written d flag res g) 0 ≡ reg g 0
 zero_written r.Nop flag res g = refl
 zero_written r.Pc flag res g = refl
 zero_written r.Ad flag res g = refl
@@ -35,10 +37,12 @@ zero_written r.R31 flag res g = unwritten 31 res g.general
 zero_written r.Erq flag res g = refl
 zero_written r.Rfe flag res g = refl
 
-allowed_or_not : (t : Bool) (d : Destination) (flag : Option Fault) (res : ℕ) (g : Regs) → reg (cond t (written d flag res g) g) 0 ≡ reg g 0
+allowed_or_not : (t : Bool) (d : Destination) (flag : Option Fault) (res : ℕ) (g : Regs)
+    → reg (cond t (written d flag res g) g) 0 ≡ reg g 0
 allowed_or_not true d flag res g = zero_written d flag res g
 allowed_or_not false d flag res g = refl
 
 -- and every unfrozen cycle
-pub zero_advanced : (w : Row) (lines : ℕ) (k : ℕ × Bool × Bool) (a : Option Answer) (c : State) → reg (advanced w lines k a c).regs 0 ≡ reg c.regs 0
+pub zero_advanced : (w : Row) (lines : ℕ) (k : ℕ × Bool × Bool) (a : Option Answer) (c : State)
+    → reg (advanced w lines k a c).regs 0 ≡ reg c.regs 0
 zero_advanced w lines k a c = allowed_or_not _ w.destination c.flag k.0 c.regs

@@ -7,22 +7,29 @@ use Rattle.r3000.specs.declared.cpu.Core.{Core}
 use Rattle.r3000.specs.declared.processor.Processor.{Processor}
 
 -- a core's registers, flag, row and ledger, as the rules see them
-abbrev pub state_of : {B : Type 0} → Core B → State
-state_of c = seen c.processor.chip
+abbrev pub core_state : {B : Type 0} → Core B → State
+core_state c = seen c.processor.chip
 
 -- the pile that a core owns
 abbrev pub pile_of : {B : Type 0} → Core B → B
 pile_of c = c.pile
 
 -- a processor on a pile, as the rules see it, with what it has behind it
-abbrev pub made : {B : Type 0} → History → Processor → B → Machine B
-made h p pile = record { state = seen p.chip; lines = p.lines; report = p.counts.report; pile = pile; history = h }
+abbrev pub machine_of_parts : {B : Type 0} → History → Processor → B → Machine B
+machine_of_parts h p pile =
+    record {
+      processor = record { state = seen p.chip; lines = p.lines };
+      pile = pile;
+      observed = record { report = p.counts.report; history = h };
+    }
 
 -- a core, so seen
-abbrev pub machine : {B : Type 0} → History → Core B → Machine B
-machine h c = made h c.processor c.pile
+abbrev pub machine_of : {B : Type 0} → History → Core B → Machine B
+machine_of h c = machine_of_parts h c.processor c.pile
 
 -- the 42 registers by their numbers: 0 to 31, then PC, HI, LO, SR, CR, EPC, BAR, AD, IR, DT; CR is read with the lines
-abbrev pub numbered : State → List ℕ
-numbered s =
-    s.regs.general ++ (s.regs.pc ∷ s.regs.hi ∷ s.regs.lo ∷ s.regs.sr ∷ causes s.lines s.regs.cr ∷ s.regs.epc ∷ s.regs.bar ∷ s.regs.ad ∷ s.regs.ir ∷ s.dt ∷ [])
+abbrev pub registers_in_order : State → List ℕ
+registers_in_order s =
+    s.regs.general
+    ++ (s.regs.pc ∷ s.regs.hi ∷ s.regs.lo ∷ s.regs.sr ∷ causes s.lines s.regs.cr ∷ s.regs.epc ∷ s.regs.bar
+    ∷ s.regs.ad ∷ s.regs.ir ∷ s.dt ∷ [])

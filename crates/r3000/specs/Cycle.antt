@@ -3,9 +3,8 @@ use Rattle.std.specs.Prelude.{◌≡◌, ℕ, zero, suc, Bool, true, false, cond
 use Rattle.bus.specs.declared.request.Answer.{Answer}
 use Rattle.bus.specs.declared.request.Answer.TheVariants.{Wait, BusError, Done}
 use Rattle.bus.specs.declared.request.Request.{Request}
-use Rattle.microprogram.specs.Cycle.{advanced, asked, ends, worked}
-use Rattle.r3000.specs.Counts.{counted}
-use Rattle.r3000.specs.Machine.{Machine, hand, later}
+use Rattle.microprogram.specs.Cycle.{State, advanced, asked, worked}
+use Rattle.r3000.specs.Machine.{Machine, current_row, observed_after}
 
 -- how a pile goes on in a cycle: it is asked exactly where the cycle makes a request
 abbrev pub Asks : {S : Type 0} → (S → Request → Answer → S → Type 0) → S → Option Request → Option Answer → S → Type 0
@@ -13,23 +12,43 @@ Asks steps s None a t = (a ≡ None) × (t ≡ s)
 Asks steps s (Some q) a t = (b : Answer) × (a ≡ Some b) × steps s q b t
 
 -- a cycle is frozen exactly when the pile answers wait
-abbrev pub freezes : Option Answer → Bool
-freezes None = false
-freezes (Some Wait) = true
-freezes (Some BusError) = false
-freezes (Some (Done w)) = false
+abbrev pub is_wait : Option Answer → Bool
+is_wait None = false
+is_wait (Some Wait) = true
+is_wait (Some BusError) = false
+is_wait (Some (Done w)) = false
 
--- one cycle from c to d: a frozen one leaves the processor as it is, another one does what the row says
-pub record Cycle {S : Type 0} (steps : S → Request → Answer → S → Type 0) (c : Machine S) (frozen : Bool) (d : Machine S) : Type 0 where
+-- a core after a cycle, by whether it was frozen, the answer to its request, and what its pile then is: a frozen cycle
+-- leaves the processor as it is, another one does what the row says
+abbrev pub core_after_cycle : {S T : Type 0} → Bool → Option Answer → T → Machine S → Machine T
+core_after_cycle frozen a pile c =
+    let s : State = c.processor.state in
+    record {
+      processor =
+          record
+          c.processor {
+            state = cond frozen s
+                (advanced (current_row s) c.processor.lines (worked (current_row s) s) a s);
+          };
+      pile = pile;
+      observed = observed_after c.processor frozen c.observed;
+    }
+
+-- the request that a core makes in its next cycle
+abbrev pub next_request : {S : Type 0} → Machine S → Option Request
+next_request c = asked (current_row c.processor.state) c.processor.state
+
+-- one cycle from c to d
+pub record Cycle {S : Type 0} (steps : S → Request → Answer → S → Type 0)
+    (c : Machine S) (frozen : Bool) (d : Machine S) : Type 0 where
   pub answer : Option Answer
-  pub asks : Asks steps c.pile (asked (hand c.state) c.state) answer d.pile
-  pub freeze : frozen ≡ freezes answer
-  pub state : d.state ≡ cond frozen c.state (advanced (hand c.state) c.lines (worked (hand c.state) c.state) answer c.state)
-  pub lines : d.lines ≡ c.lines
-  pub report : d.report ≡ counted frozen (ends (hand c.state).sequencing) c.report
-  pub history : d.history ≡ later c frozen
+  pub asks : Asks steps c.pile (next_request c) answer d.pile
+  pub freeze : frozen ≡ is_wait answer
+  pub after : d ≡ core_after_cycle frozen answer d.pile c
 
 -- so many cycles, one after another, and what is said of the core after each of them
-abbrev pub Cycles : {S : Type 0} → (S → Request → Answer → S → Type 0) → (Machine S → Type 0) → ℕ → Machine S → Machine S → Type 0
+abbrev pub Cycles : {S : Type 0} → (S → Request → Answer → S → Type 0) → (Machine S → Type 0)
+    → ℕ → Machine S → Machine S → Type 0
 Cycles steps says zero c d = d ≡ c
-Cycles {S} steps says (suc n) c d = (b : Machine S) × (frozen : Bool) × Cycles steps says n c b × Cycle steps b frozen d × says d
+Cycles {S} steps says (suc n) c d =
+    (b : Machine S) × (frozen : Bool) × Cycles steps says n c b × Cycle steps b frozen d × says d

@@ -2,6 +2,7 @@ pub mod Calls
 pub mod Core
 pub mod Counts
 pub mod Cycle
+pub mod Decided
 pub mod Denial
 pub mod Limits
 pub mod Machine

@@ -9,9 +9,9 @@ use Rattle.microprogram.specs.Bounds.{path_budget}
 use Rattle.microprogram.specs.Cycle.{State}
 use Rattle.machine.specs.Registers.{reg}
 use Rattle.machine.specs.declared.fault.Fault.{Fault}
-use Rattle.r3000.specs.Core.{machine}
+use Rattle.r3000.specs.Core.{machine_of}
 use Rattle.r3000.specs.Machine.{History, Machine}
-use Rattle.r3000.specs.Reached.{Reached}
+use Rattle.r3000.specs.Reached.{IsReached}
 use Rattle.r3000.specs.declared.cpu.Core.{Core}
 
 -- the words that a memory refuses
@@ -24,9 +24,9 @@ book_after m [] = begun m.byte
 book_after m (l ∷ ls) = step (refusals m) l (book_after m ls)
 
 -- the book's lengths of these steps, together
-abbrev pub lengths : Meaning → List ℕ → ℕ
-lengths m [] = 0
-lengths m (l ∷ ls) = lengths m ls + length_of (book_after m ls) (book_after m ls).event
+abbrev pub total_length : Meaning → List ℕ → ℕ
+total_length m [] = 0
+total_length m (l ∷ ls) = total_length m ls + length_of (book_after m ls) (book_after m ls).event
 
 -- registers without DT, the lines at the last boundary, ledger, and the bytes at every address are the book's
 pub record Agrees (b : Book) (s : State) (m : Meaning) : Type 0 where
@@ -35,43 +35,48 @@ pub record Agrees (b : Book) (s : State) (m : Meaning) : Type 0 where
   pub ledger : s.ledger ≡ b.ledger
   pub bytes : (address : ℕ) → m.byte address ≡ b.bytes address
 
--- the granted cycle with which the next boundary comes at the latest, counted from the one before or from power-up: 7 + 2 W
-abbrev pub latest : Meaning → ℕ
-latest m = path_budget.rows + path_budget.accesses * m.longest
+-- the granted cycle with which the next boundary comes at the latest, counted from the one before or from
+-- power-up: 7 + 2 W
+abbrev pub latest_boundary : Meaning → ℕ
+latest_boundary m = path_budget.rows + path_budget.accesses * m.longest
 
 -- whether a flag is up
-abbrev pub Up : State → Fault → Type 0
-Up s f = s.flag ≡ Some f
+abbrev pub IsUp : State → Fault → Type 0
+IsUp s f = s.flag ≡ Some f
 
 -- the promise, of a core that began on a pile
 pub record Promise {S : Type 0} (means : S → Meaning) (start : S) (c : Machine S) : Type 0 where
   -- the history has a step for each boundary that is reported
-  pub boundaries : length c.history.lines ≡ c.report.boundaries
+  pub boundaries : length c.observed.history.lines ≡ c.observed.report.boundaries
   -- agreement: at each boundary, where the place is 0
-  pub agreement : c.report.place ≡ 0 → Agrees (book_after (means start) c.history.lines) c.state (means c.pile)
+  pub agreement : c.observed.report.place ≡ 0
+      → Agrees (book_after (means start) c.observed.history.lines) c.processor.state (means c.pile)
   -- sum
-  pub sum : c.report.cycles ≡ c.report.frozen + lengths (means start) c.history.lines + c.report.place
+  pub sum : c.observed.report.cycles
+      ≡ c.observed.report.frozen + total_length (means start) c.observed.history.lines + c.observed.report.place
   -- promptness: the latest granted cycle after a boundary, or after power-up, is not made without a boundary
-  pub promptness : c.history.since < latest (means start)
+  pub promptness : c.observed.history.since < latest_boundary (means start)
   -- register 0 is zero, and at most one flag is up (of which the flag's type leaves no more)
-  pub register_0 : reg c.state.regs 0 ≡ 0
-  pub one_flag : (f g : Fault) → Up c.state f → Up c.state g → f ≡ g
+  pub register_0 : reg c.processor.state.regs 0 ≡ 0
+  pub one_flag : (f g : Fault) → IsUp c.processor.state f → IsUp c.processor.state g → f ≡ g
 
 module _ {S : Type 0} (means : S → Meaning) (steps : S → Request → Answer → S → Type 0) where
   -- every core that is reached keeps it
-  abbrev pub Kept : S → Type 0
-  Kept start = (c : Machine S) → Reached steps start c → Promise means start c
+  abbrev pub AllKeepPromise : S → Type 0
+  AllKeepPromise start = (c : Machine S) → IsReached steps start c → Promise means start c
 
   -- a core that can be reached on a pile, and of which the promise holds
-  pub record Promised (start : S) (c : Machine S) : Type 0 where
-    pub reached : Reached steps start c
+  pub record IsPromised (start : S) (c : Machine S) : Type 0 where
+    pub reached : IsReached steps start c
     pub promise : Promise means start c
 
-  -- from c to d the promise is upheld: on whatever pile c can be reached, d can be reached on that pile, and the promise holds of d
+  -- from c to d the promise is upheld: on whatever pile c can be reached, d can be reached on that pile, and the
+  -- promise holds of d
   abbrev pub Upholds : Machine S → Machine S → Type 0
-  Upholds c d = (start : S) → Reached steps start c → Promised start d
+  Upholds c d = (start : S) → IsReached steps start c → IsPromised start d
 
-  -- what a call does: whatever the core has behind it, R holds of the core before and the core after, which has that behind it
-  -- too, and the promise is upheld
+  -- what a call does: whatever the core has behind it, R holds of the core before and the core after, which has that
+  -- behind it too, and the promise is upheld
   abbrev pub Happens : (Machine S → Machine S → Type 0) → Core S → Core S → Type 0
-  Happens R c d = (h : History) → (k : History) × R (machine h c) (machine k d) × Upholds (machine h c) (machine k d)
+  Happens R c d =
+      (h : History) → (k : History) × R (machine_of h c) (machine_of k d) × Upholds (machine_of h c) (machine_of k d)

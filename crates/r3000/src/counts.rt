@@ -19,11 +19,11 @@ pub struct Counts {
 
 impl Counts {
     ghost use Rattle.r3000.specs.Calls.{check_cycles, check_run};
-    ghost use Rattle.r3000.specs.Counts.{counted, zeros};
+    ghost use Rattle.r3000.specs.Counts.{report_after, zero_counts};
 
     // by hand: a struct that keeps facts derives no `Default`
     pub(crate) fn new() -> Counts
-        ensures { result.report ≡ zeros }
+        ensures { result.report ≡ zero_counts }
     {
         Counts {
             report: Report::default(),
@@ -53,7 +53,7 @@ impl Counts {
     /// One cycle more, by whether it was frozen and whether its row ends a path.
     pub(crate) fn count(&mut self, frozen: bool, last: bool)
         requires { self.old.report.cycles < max_cycles }
-        ensures { self.new.report ≡ counted frozen last self.old.report }
+        ensures { self.new.report ≡ report_after frozen last self.old.report }
     {
         self.report.cycles += 1;
         if frozen {

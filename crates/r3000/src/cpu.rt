@@ -1,10 +1,10 @@
 //! The core and its calls.
 
 ghost use Rattle.std.specs.Prelude.{◌≡◌, slice_index};
-ghost use Rattle.r3000.specs.Calls.{Clocks, Runs, ledger_reply, lines_reply, lines_set, look_reply, register_reply};
-ghost use Rattle.r3000.specs.Core.{machine, made, numbered, pile_of, state_of};
-ghost use Rattle.r3000.specs.Machine.{History, built, fresh};
-ghost use Rattle.r3000.specs.Promise.{Happens, Promised, Upholds};
+ghost use Rattle.r3000.specs.Calls.{Clocks, Runs, ledger_reply, lines_reply, after_lines, look_reply, register_reply};
+ghost use Rattle.r3000.specs.Core.{machine_of, machine_of_parts, registers_in_order, pile_of, core_state};
+ghost use Rattle.r3000.specs.Machine.{History, core_at_power_up, no_history};
+ghost use Rattle.r3000.specs.Promise.{Happens, IsPromised, Upholds};
 
 use super::denial::Denial;
 use super::limits::{MAX_LINES, REGISTERS};
@@ -25,8 +25,8 @@ pub struct Core<B> {
 impl<B: Bus> Core<B> {
     /// Power-up on a pile: the core can be reached on it, with nothing behind it.
     pub fn new(pile: B) -> Core<B>
-        ensures core { machine fresh result ≡ built pile }
-        ensures promise { Promised B.Bus.means B.Bus.steps pile (machine fresh result) }
+        ensures core { machine_of no_history result ≡ core_at_power_up pile }
+        ensures promise { IsPromised B.Bus.means B.Bus.steps pile (machine_of no_history result) }
     {
         promise::<B>();
         Core {
@@ -37,14 +37,14 @@ impl<B: Bus> Core<B> {
 
     /// Takes the core apart: its processor, and its pile.
     pub fn into_parts(self) -> (Processor, B)
-        ensures { (h : History) → made h result.0 result.1 ≡ machine h self }
+        ensures { (h : History) → machine_of_parts h result.0 result.1 ≡ machine_of h self }
     {
         (self.processor, self.pile)
     }
 
     /// Puts a core together again.
     pub fn from_parts(processor: Processor, pile: B) -> Core<B>
-        ensures { (h : History) → machine h result ≡ made h processor pile }
+        ensures { (h : History) → machine_of h result ≡ machine_of_parts h processor pile }
     {
         Core { processor, pile }
     }
@@ -66,7 +66,8 @@ impl<B: Bus> Core<B> {
 
     /// So many cycles, from 1 to 65,535, or none where their count would pass its limit.
     pub fn run(&mut self, count: u32) -> Result<Report, Denial>
-        ensures { Happens B.Bus.means B.Bus.steps (λ c d. Runs B.Bus.steps (Upholds B.Bus.means B.Bus.steps c) count c result d) self.old self.new }
+        ensures { Happens B.Bus.means B.Bus.steps
+            (λ c d. Runs B.Bus.steps (Upholds B.Bus.means B.Bus.steps c) count c result d) self.old self.new }
     {
         promise::<B>();
         let mut processor = self.processor;
@@ -81,7 +82,7 @@ impl<B: Bus> Core<B> {
     /// Sets the lines: bits 0–5 are IT0–IT5, bit 6 is RST.
     pub fn lines(&mut self, lines: u8) -> Result<(), Denial>
         ensures reply { result ≡ lines_reply lines }
-        ensures core { Happens B.Bus.means B.Bus.steps (λ c d. d ≡ lines_set lines c) self.old self.new }
+        ensures core { Happens B.Bus.means B.Bus.steps (λ c d. d ≡ after_lines lines c) self.old self.new }
     {
         promise::<B>();
         if lines > MAX_LINES {
@@ -93,7 +94,7 @@ impl<B: Bus> Core<B> {
 
     /// All registers: 0–31, then PC, HI, LO, SR, CR, EPC, BAR, AD, IR and DT. Register 0 is zero.
     pub fn snapshot(&self) -> [u32; REGISTERS]
-        ensures reply { result ≡ numbered (state_of self.now) }
+        ensures reply { result ≡ registers_in_order (core_state self.now) }
         ensures zero { slice_index result 0 ≡ 0 }
         ensures core { Happens B.Bus.means B.Bus.steps (λ c d. d ≡ c) self.now self.now }
     {
@@ -119,7 +120,7 @@ impl<B: Bus> Core<B> {
 
     /// One register, by its number in the snapshot.
     pub fn register(&self, number: u8) -> Result<u32, Denial>
-        ensures reply { result ≡ register_reply number (state_of self.now) }
+        ensures reply { result ≡ register_reply number (core_state self.now) }
         ensures core { Happens B.Bus.means B.Bus.steps (λ c d. d ≡ c) self.now self.now }
     {
         promise::<B>();
@@ -131,7 +132,7 @@ impl<B: Bus> Core<B> {
 
     /// The ledger's entry of a code, 0–15.
     pub fn ledger(&self, code: u8) -> Result<Entry, Denial>
-        ensures reply { result ≡ ledger_reply code (state_of self.now) }
+        ensures reply { result ≡ ledger_reply code (core_state self.now) }
         ensures core { Happens B.Bus.means B.Bus.steps (λ c d. d ≡ c) self.now self.now }
     {
         promise::<B>();

@@ -5,6 +5,7 @@
 pub mod call;
 mod counts;
 pub mod cpu;
+pub mod decided;
 pub mod denial;
 pub mod limits;
 pub mod perform;

@@ -2,9 +2,9 @@
 
 ghost use Rattle.std.specs.Prelude.{◌≡◌, ◌<◌};
 ghost use Rattle.microprogram.specs.Cycle.{powered, seen};
-ghost use Rattle.r3000.specs.Core.{made};
-ghost use Rattle.r3000.specs.Counts.{zeros};
-ghost use Rattle.r3000.specs.Cycle.{Asks, Cycle, freezes};
+ghost use Rattle.r3000.specs.Core.{machine_of_parts};
+ghost use Rattle.r3000.specs.Counts.{zero_counts};
+ghost use Rattle.r3000.specs.Cycle.{Asks, Cycle, is_wait};
 ghost use Rattle.r3000.specs.Limits.{max_cycles};
 ghost use Rattle.r3000.specs.Machine.{History};
 
@@ -29,7 +29,7 @@ impl Processor {
     pub(crate) fn new() -> Processor
         ensures state { seen result.chip ≡ powered }
         ensures lines { result.lines ≡ 0 }
-        ensures report { result.counts.report ≡ zeros }
+        ensures report { result.counts.report ≡ zero_counts }
     {
         Processor {
             chip: Chip::new(),
@@ -41,7 +41,9 @@ impl Processor {
     /// One cycle on a pile; tells whether it was frozen.
     pub(crate) fn cycle<B: Bus>(&mut self, pile: &mut B) -> bool
         requires { self.old.counts.report.cycles < max_cycles }
-        ensures { (h : History) → (k : History) × Cycle B.Bus.steps (made h self.old pile.old) result (made k self.new pile.new) }
+        ensures { (h : History)
+            → (k : History)
+            × Cycle B.Bus.steps (machine_of_parts h self.old pile.old) result (machine_of_parts k self.new pile.new) }
     {
         let row = row(self.chip.row);
         let work = self.chip.work(row);
@@ -66,7 +68,7 @@ fn ask<B: Bus>(pile: &mut B, request: Option<Request>) -> Option<Answer>
 
 /// A cycle is frozen exactly when the pile answers wait.
 fn freezes(answer: Option<Answer>) -> bool
-    ensures { result ≡ freezes answer }
+    ensures { result ≡ is_wait answer }
 {
     answer == Some(Answer::Wait)
 }

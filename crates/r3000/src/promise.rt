@@ -1,16 +1,18 @@
 //! The promise, as a theorem.
 
-ghost use Rattle.r3000.specs.Promise.{Kept};
+ghost use Rattle.r3000.specs.Promise.{AllKeepPromise};
 
 use book::law::longest_step;
 use bus::memory::Bus;
 use microprogram::bounds::longest_path;
 use paths::law::steps_are_paths;
 
-/// Everything that is reached on any pile keeps the promise. This is a proof and no code: who calls it has its contract.
+/// Everything that is reached on any pile keeps the promise. This is a proof and no code: who calls it has its
+/// contract.
 pub fn promise<B: Bus>()
-    ensures { (start : B) → Kept B.Bus.means B.Bus.steps start }
+    ensures { (start : B) → AllKeepPromise B.Bus.means B.Bus.steps start }
 {
+    B::keeps();
     let _ = longest_path();
     let _ = longest_step();
     steps_are_paths();

@@ -1,7 +1,7 @@
 //! The example of docs/JOBS.md.
 
 ghost use Rattle.std.specs.Prelude.{◌≡◌};
-ghost use Rattle.replies.specs.Replies.{ExampleHolds, answer_to, example_job, example_replies};
+ghost use Rattle.replies.specs.Replies.{ExampleHolds, answer_text, example_job, example_replies};
 
 /// A job, and the bytes of its replies.
 #[derive(Clone, Copy)]
@@ -13,7 +13,7 @@ pub struct Example {
 /// A job of four lines that loads an instruction, runs it, and shows its register; and what it is answered.
 pub fn first_job() -> Example
     ensures job { result.job.now ≡ example_job }
-    ensures replies { answer_to result.job.now ≡ result.replies.now }
+    ensures replies { answer_text result.job.now ≡ result.replies.now }
     ensures holds { ExampleHolds }
 {
     Example {

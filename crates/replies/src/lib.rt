@@ -4,14 +4,14 @@
 
 ghost use Rattle.std.specs.Prelude.{◌≡◌, ℕ, List, take};
 ghost use Rattle.std.specs.Iterator.{YieldsFirst, item_count};
-ghost use Rattle.replies.specs.Replies.{enough, replies_to, to_come};
+ghost use Rattle.replies.specs.Replies.{enough_bytes, replies_to, replies_to_come};
 
 pub mod example;
 
 use jobs::job::Job;
 use jobs::limits::MAX_JOB;
-use lines::reply::Reply;
 use pile::job::{Memories, Pile, goes_on};
+use text::reply::Reply;
 
 /// A job at work on the pile of jobs: an iterator over the replies that are still to come. Nothing is allocated.
 #[derive(Drop)]
@@ -20,7 +20,7 @@ pub struct Replies<'a>(Job<'a, Pile<'a>>);
 impl<'a> Replies<'a> {
     /// The replies to a job. The memories are zeroed, and lent to its pile.
     pub fn new(memories: &'a mut Memories, job: &'a [u8]) -> Replies<'a>
-        ensures { to_come result ≡ replies_to job.now }
+        ensures { replies_to_come result ≡ replies_to job.now }
     {
         *memories = Memories::zeroed();
         Replies(Job::new(memories.pile(), job))
@@ -30,9 +30,9 @@ impl<'a> Replies<'a> {
 impl<'a> Iterator for Replies<'a> {
     type Item = Reply;
 
-    ghost next_gives = { YieldsFirst to_come };
+    ghost next_gives = { YieldsFirst replies_to_come };
 
-    ghost remaining = { item_count to_come };
+    ghost remaining = { item_count replies_to_come };
 
     fn next(&mut self) -> Option<Reply> {
         goes_on();
@@ -42,7 +42,7 @@ impl<'a> Iterator for Replies<'a> {
 
 /// How many bytes of a job tell its replies: one more than a job may have tells that it is too long.
 pub fn enough() -> u64
-    ensures value { result ≡ enough }
+    ensures value { result ≡ enough_bytes }
     ensures tells { (job : List ℕ) → replies_to (take result job) ≡ replies_to job }
 {
     MAX_JOB as u64 + 1

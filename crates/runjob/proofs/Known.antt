@@ -10,7 +10,7 @@ use Rattle.runjob.specs.Run.{AppendsFront, Known, Running, StopsReading, TakesBy
 use Rattle.runjob.specs.declared.failure.Failure.{Failure}
 use Rattle.runjob.specs.declared.failure.Failure.TheVariants.{Memory, Write}
 use Rattle.std.specs.declared.io.Error.{Error}
-use Rattle.replies.specs.Replies.{answer_to, enough, replies_to}
+use Rattle.replies.specs.Replies.{answer_text, enough_bytes, replies_to}
 
 pub Appends-more : (o p q : Known) (a b : List ℕ) → Appends o p a → Appends p q b → Appends o q (a ++ b)
 Appends-more None p q a b h k = tt
@@ -31,25 +31,25 @@ Writing-stopped o p bs (Err e) k h = h
 
 -- where the reader has no more, all of its bytes were taken
 pub first-end : (o p : Known) (job : List ℕ)
-    → Consumes o p job → IsAtEnd p → length job ≤ enough → IfSome o (λ bytes. job ≡ take enough bytes)
+    → Consumes o p job → IsAtEnd p → length job ≤ enough_bytes → IfSome o (λ bytes. job ≡ take enough_bytes bytes)
 first-end None p job h e l = tt
 first-end (Some xs) None job h e l = absurd h
 first-end (Some xs) (Some ys) job h e l =
     let all : xs ≡ job = h ∙ ap (λ l. job ++ l) e ∙ append-nil job in
-    sym (ap (λ l. take enough l) all ∙ take_all enough job l)
+    sym (ap (λ l. take enough_bytes l) all ∙ take_all enough_bytes job l)
 
 -- where as many as may be taken were taken, they are the first of them
 pub first-full : (o p : Known) (job : List ℕ)
-    → Consumes o p job → length job ≡ enough → IfSome o (λ bytes. job ≡ take enough bytes)
+    → Consumes o p job → length job ≡ enough_bytes → IfSome o (λ bytes. job ≡ take enough_bytes bytes)
 first-full None p job h e = tt
 first-full (Some xs) None job h e = absurd h
 first-full (Some xs) (Some ys) job h e =
-    sym (ap (λ l. take enough l) h ∙ ap (λ n. take n (job ++ ys)) (sym e) ∙ take-append_seam job ys)
+    sym (ap (λ l. take enough_bytes l) h ∙ ap (λ n. take n (job ++ ys)) (sym e) ∙ take-append_seam job ys)
 
 -- the first n bytes are a job, where so many tell their replies
 pub TakesJob-first : (o p : Known) (n : ℕ) (job : List ℕ)
-    → n ≡ enough → ((bytes : List ℕ) → replies_to (take n bytes) ≡ replies_to bytes)
-    → Consumes o p job → IfSome o (λ bytes. job ≡ take enough bytes) → TakesJob o p job
+    → n ≡ enough_bytes → ((bytes : List ℕ) → replies_to (take n bytes) ≡ replies_to bytes)
+    → Consumes o p job → IfSome o (λ bytes. job ≡ take enough_bytes bytes) → TakesJob o p job
 TakesJob-first None p n job e tells h first = (h, tt)
 TakesJob-first (Some bytes) p n job e tells h first =
     (h, (first, ap replies_to (first ∙ ap (λ k. take k bytes) (sym e)) ∙ tells bytes))
@@ -70,8 +70,9 @@ StopsReading-memory P o p (Ok x) h k = absurd h
 StopsReading-memory P o p (Err f) h k = rw h k
 
 -- a job was read, and its answer was written as far as it was
-pub Running-written : (r r' w w' : Known) (job bs : List ℕ) (x : Result (Unit {0}) Error) (y : Result (Unit {0}) Failure)
-    → TakesJob r r' job → Writing w w' bs x → bs ≡ answer_to job
+pub Running-written : (r r' w w' : Known) (job bs : List ℕ) (x : Result (Unit {0}) Error)
+    (y : Result (Unit {0}) Failure)
+    → TakesJob r r' job → Writing w w' bs x → bs ≡ answer_text job
     → MatchResult x (λ u. y ≡ Ok u) (λ e. IsErrAnd y (λ f. f ≡ Write e)) → Running r r' w w' y
 Running-written r r' w w' job bs (Ok u) y h a e k = rw k (job, h, rw (← e) a)
 Running-written r r' w w' job bs (Err e) (Ok v) h a s k = absurd k

@@ -1,7 +1,7 @@
 -- What a run does to its reader and its writer, where their bytes are known. Assumes nothing.
 use Rattle.std.specs.Prelude.{◌≡◌, ℕ, ◌<◌, ◌≤◌, List, ◌++◌, length, take, Ok, Err, Option, Result, IfSome}
 use Rattle.std.specs.Io.KnownBytes.{Appends, Consumes, Keeps}
-use Rattle.replies.specs.Replies.{answer_to, enough, replies_to}
+use Rattle.replies.specs.Replies.{answer_text, enough_bytes, replies_to}
 use Rattle.runjob.specs.declared.failure.Failure.{Failure}
 use Rattle.runjob.specs.declared.failure.Failure.TheVariants.{Memory, Read, Write}
 
@@ -12,15 +12,15 @@ Known = Option (List ℕ)
 -- a job was taken: the first bytes of a reader and no more, and their replies are those to all of its bytes
 abbrev pub TakesJob : Known → Known → List ℕ → Type 0
 TakesJob old new job = Consumes old new job
-    × IfSome old (λ bytes. (job ≡ take enough bytes) × (replies_to job ≡ replies_to bytes))
+    × IfSome old (λ bytes. (job ≡ take enough_bytes bytes) × (replies_to job ≡ replies_to bytes))
 
 -- no more than a job was taken
 abbrev pub TakesSome : Known → Known → Type 0
-TakesSome old new = (taken : List ℕ) × Consumes old new taken × (length taken ≤ enough)
+TakesSome old new = (taken : List ℕ) × Consumes old new taken × (length taken ≤ enough_bytes)
 
 -- no more than a job was taken, and not nothing: memory is wanted for bytes that were read
 abbrev pub TakesBytes : Known → Known → Type 0
-TakesBytes old new = (taken : List ℕ) × Consumes old new taken × (0 < length taken) × (length taken ≤ enough)
+TakesBytes old new = (taken : List ℕ) × Consumes old new taken × (0 < length taken) × (length taken ≤ enough_bytes)
 
 -- a front of some bytes was appended
 abbrev pub AppendsFront : Known → Known → List ℕ → Type 0
@@ -41,7 +41,7 @@ Writing old new bytes (Err e) = AppendsFront old new bytes
 module _ (r r' w w' : Known) where
   -- all of the answer to the job was written, or a front of it, or nothing of it since the job could not be read
   abbrev pub Running : Result (Unit {0}) Failure → Type 0
-  Running (Ok u) = (job : List ℕ) × TakesJob r r' job × Appends w w' (answer_to job)
-  Running (Err (Write e)) = (job : List ℕ) × TakesJob r r' job × AppendsFront w w' (answer_to job)
+  Running (Ok u) = (job : List ℕ) × TakesJob r r' job × Appends w w' (answer_text job)
+  Running (Err (Write e)) = (job : List ℕ) × TakesJob r r' job × AppendsFront w w' (answer_text job)
   Running (Err (Read e)) = TakesSome r r' × Keeps w w'
   Running (Err Memory) = TakesBytes r r' × Keeps w w'

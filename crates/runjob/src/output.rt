@@ -2,14 +2,14 @@
 
 ghost use Rattle.std.specs.Io.{WritesAtMost};
 ghost use Rattle.std.specs.Io.KnownBytes.{WriteAppends};
-ghost use Rattle.replies.specs.Replies.{all_written, to_come};
+ghost use Rattle.replies.specs.Replies.{text_of_replies, replies_to_come};
 ghost use Rattle.runjob.specs.Run.{Writing};
 
 use super::RETRIES;
-use lines::writing::text;
 use replies::Replies;
 use std::io;
 use std::io::{ErrorKind, Write};
+use text::writing::text;
 
 /// One write, tried again where it was interrupted.
 fn write_some<W: Write>(writer: &mut W, bytes: &[u8]) -> io::Result<usize>
@@ -43,7 +43,7 @@ fn write_whole<W: Write>(writer: &mut W, bytes: &[u8]) -> io::Result<()>
 /// Writes each reply as it comes.
 pub fn write_replies<W: Write>(writer: &mut W, replies: &mut Replies<'_>) -> io::Result<()>
     ensures { Writing (W.contents writer.old) (W.contents writer.new)
-        (all_written (to_come replies.old)) result }
+        (text_of_replies (replies_to_come replies.old)) result }
 {
     while let Some(reply) = replies.next() {
         write_whole(writer, text(reply).as_slice())?;

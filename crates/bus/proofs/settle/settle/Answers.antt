@@ -5,16 +5,27 @@ use Rattle.bus.proofs.settle.settle.Goals as goal
 
 pub returns-in-Some : goal.returns-in-Some
 returns-in-Some g c =
-    ends g.B.Bus.keeps c.args.request c.loop-waits.waits c.args.bus.now c.loop-waits.bus c.request-answer.new.self c.loop-waits.invariant c.request-answer.result c.in-Some.outcome c.request-answer.ensures c.in-Some.ensures
+    ends c.keeps.ensures c.args.request c.loop-waits.waits c.args.bus.now c.loop-waits.bus c.request-answer.new.self
+    c.loop-waits.invariant c.request-answer.result c.in-Some.outcome c.request-answer.ensures c.in-Some.ensures
 
 pub loop-waits-preserved : goal.loop-waits-preserved
 loop-waits-preserved g c =
-    rw add-one (goes_on g.B.Bus.keeps c.args.request c.loop-waits.waits c.args.bus.now c.loop-waits.bus c.request-answer.new.self c.request-answer.result c.loop-waits.invariant c.request-answer.ensures c.in_default.ensures)
+    rw add-one
+    (goes_on c.keeps.ensures c.args.request c.loop-waits.waits c.args.bus.now c.loop-waits.bus
+    c.request-answer.new.self c.request-answer.result c.loop-waits.invariant c.request-answer.ensures
+    c.in_default.ensures)
 
 pub unreachable-requires : goal.unreachable-requires
 unreachable-requires g c = elim c.loop-waits-test.branch [
   | else-loop-waits-test w ↦ omega arith
   | then-loop-waits-test+in_default+else-waits-waits-end w ↦
-      let more = goes_on g.B.Bus.keeps c.args.request c.loop-waits.waits c.args.bus.now c.loop-waits.bus w.request-answer.new.self w.request-answer.result c.loop-waits.invariant w.request-answer.ensures w.in_default.ensures in
-      omega (arith, bounded g.B.Bus.keeps c.args.request (suc c.loop-waits.waits) c.args.bus.now w.request-answer.new.self more)
+      let more =
+      goes_on c.keeps.ensures c.args.request c.loop-waits.waits c.args.bus.now c.loop-waits.bus
+      w.request-answer.new.self w.request-answer.result c.loop-waits.invariant w.request-answer.ensures
+      w.in_default.ensures in
+      omega (
+        arith,
+        bounded c.keeps.ensures c.args.request (suc c.loop-waits.waits) c.args.bus.now w.request-answer.new.self
+            more,
+      )
 ]

@@ -1,5 +1,5 @@
-use Rattle.bus.specs.Settled.{Waited}
+use Rattle.bus.specs.Settled.{Waits}
 use Rattle.bus.proofs.settle.settle.Given as goal
 
 abbrev pub invariant-loop-waits : goal.invariant-loop-waits
-invariant-loop-waits g l = Waited g.B.Bus.steps l.request l.waits l.initial.bus l.bus
+invariant-loop-waits g l = Waits g.B.Bus.steps l.request l.waits l.initial.bus l.bus

@@ -1,8 +1,9 @@
 use Rattle.std.proofs.Common.{◌≡◌, ◌++◌, List}
-use Rattle.jobs.specs.Coming.{standing}
-use Rattle.jobs.specs.Job.{Done, ToCome, last_of}
-use Rattle.jobs.specs.Station.{IsReached}
-use Rattle.lines.specs.declared.reply.Reply.{Reply}
+use Rattle.jobs.specs.Coming.{standing_of}
+use Rattle.jobs.specs.Job.{AnswersJob, AreToCome, last_reply_of}
+use Rattle.jobs.specs.Limits.{max_job}
+use Rattle.jobs.specs.Station.{StageIsReached}
+use Rattle.text.specs.declared.reply.Reply.{Reply}
 use Rattle.r3000.specs.Machine.{History}
 use Rattle.jobs.proofs.whole.last_reply.Given as goal
 
@@ -11,7 +12,8 @@ invariant-loop-reply g l = record {
   replies : List Reply;
   start : g.row.B.Denot;
   history : History;
-  reached : IsReached g.B.Bus.means g.B.Bus.steps (standing start history l.reply-iterator).stage;
-  comes : (rs : List Reply) → ToCome g.B.Bus.means g.B.Bus.steps (standing start history l.reply-iterator) rs → Done g.B.Bus.means g.B.Bus.steps l.fn.pile l.bytes (replies ++ rs);
-  last : l.last ≡ last_of replies;
+  reached : StageIsReached g.B.Bus.means g.B.Bus.steps (standing_of start history l.reply-iterator).stage;
+  comes : (rs : List Reply) → AreToCome g.B.Bus.means g.B.Bus.steps (standing_of start history l.reply-iterator) rs
+      → AnswersJob g.B.Bus.means g.B.Bus.steps max_job l.fn.pile l.bytes (replies ++ rs);
+  last : l.last ≡ last_reply_of replies;
 }

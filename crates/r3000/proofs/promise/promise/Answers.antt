@@ -8,4 +8,12 @@ returns g c =
     let book = c.longest_step.ensures in
     let rows = c.longest_path.ensures in
     let paths = c.steps_are_paths.ensures in
-    kept (record { memory = paths.memory; paths = paths.paths; begins = paths.begins; fits = book.begins; words = book.words; some = book.longest.some; rows = subst RowsEnd rows.value rows.bounded; listed = rows.listed }) g.B.Bus.keeps
+    kept (record {
+      memory = paths.memory;
+      paths = paths.paths;
+      begins = paths.begins;
+      words = book.words;
+      some = book.longest.some;
+      rows = subst RowsEnd rows.value rows.bounded;
+      listed = rows.listed;
+    }) c.keeps.ensures

@@ -1,6 +1,7 @@
 use Rattle.std.proofs.Common.{◌++◌, take, arith}
 use Rattle.std.proofs.lemmas.List.{length-append, length-take}
-use Rattle.runjob.proofs.Known.{Consumes-more, Consumes-none, first-end, first-full, StopsReading-memory, TakesJob-first}
+use Rattle.runjob.proofs.Known.{Consumes-more, Consumes-none, first-end, first-full, StopsReading-memory}
+use Rattle.runjob.proofs.Known.{TakesJob-first}
 use Rattle.runjob.proofs.input.read_job.Goals as goal
 
 pub returns-in-Ok-eq0 : goal.returns-in-Ok-eq0

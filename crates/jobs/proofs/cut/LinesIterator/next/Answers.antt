@@ -7,7 +7,9 @@ pub returns-clause-steps : goal.returns-clause-steps
 returns-clause-steps c =
     let part = c.in_ok-line.ensures.steps in
     let first = part.1.2 (λ b. eqb b 10) (answers_always _ _ _ (λ f a r f' k. search rules)) in
-    next_line c.args.self.now.0.now c.split_inclusive.result.rest.now c.next.new.self.rest.now c.in_ok-line.line c.unwrap_or.result c.strip_suffix.result part.1.0 c.split_inclusive.ensures.rest part.0 part.2 part.1.1 first.1 c.strip_suffix.ensures.cases c.unwrap_or.ensures
+    next_line c.args.self.now.0.now c.split_inclusive.result.rest.now c.next.new.self.rest.now c.in_ok-line.line
+    c.unwrap_or.result c.strip_suffix.result part.1.0 c.split_inclusive.ensures.rest part.0 part.2 part.1.1 first.1
+    c.strip_suffix.ensures.cases c.unwrap_or.ensures
 
 pub returns-clause-goes : goal.returns-clause-goes
 returns-clause-goes c =

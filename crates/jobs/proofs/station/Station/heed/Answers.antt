@@ -1,15 +1,16 @@
 use Rattle.std.proofs.Common.{◌≡◌, ℕ, [], ◌∷◌, Ok, Err, Result, sym, refl, subst, subst₂, rules}
 use Rattle.std.specs.Result.{MatchResult}
-use Rattle.jobs.specs.Job.{Heeds, answered, denial}
-use Rattle.jobs.specs.Station.{IsPromised, IsReached, stage}
-use Rattle.lines.specs.declared.fault.JobFault.{JobFault}
-use Rattle.lines.specs.declared.reply.Reply.{Reply}
+use Rattle.jobs.specs.Job.{AnswersLine, line_replies, denial_reply}
+use Rattle.jobs.specs.Station.{StageIsPromised, StageIsReached, stage_of_station}
+use Rattle.jobs.specs.declared.fault.JobFault.{JobFault}
+use Rattle.text.specs.declared.reply.Reply.{Reply}
 use Rattle.jobs.proofs.Promised.{promised}
 use Rattle.jobs.proofs.station.Station.heed.Goals as goal
 use Rattle.jobs.proofs.station.Station.heed.Goals.{in-Err, in-Ok}
 
 -- a denial takes the place of a reply
-replied : (n : ℕ) (r : Reply) (q : Result Reply JobFault) → MatchResult q (λ x. r ≡ x) (λ f. r ≡ denial n f) → answered n q ≡ r ∷ []
+replied : (n : ℕ) (r : Reply) (q : Result Reply JobFault) → MatchResult q (λ x. r ≡ x) (λ f. r ≡ denial_reply n f)
+    → line_replies n q ≡ r ∷ []
 replied n r (Ok x) h = cc
 replied n r (Err f) h = cc
 
@@ -22,15 +23,30 @@ returns g c s h =
           let done = w.obey.ensures s h in (
             done.0,
             done.1,
-            subst₂ (λ o rs. Heeds g.B.Bus.means g.B.Bus.steps (stage s h c.args.self) n o rs (stage done.0 done.1 c.match-read.station.0)) w.in-Ok.ensures said
-                (subst (λ e. Heeds g.B.Bus.means g.B.Bus.steps (stage s h c.args.self) n (Ok w.in-Ok.order) (answered n e.1) (stage done.0 done.1 e.0)) (sym w.station-is) (w.obey.result.1, done.2, refl)),
-            subst (λ e. IsReached g.B.Bus.means g.B.Bus.steps (stage s h c.args.self) → IsPromised g.B.Bus.means g.B.Bus.steps (stage done.0 done.1 e.0)) (sym w.station-is) done.3,
+            subst₂
+                (λ o rs. AnswersLine g.B.Bus.means g.B.Bus.steps (stage_of_station s h c.args.self) n o rs
+                (stage_of_station done.0 done.1 c.match-read.station.0)) w.in-Ok.ensures said
+                (subst
+                (λ e. AnswersLine g.B.Bus.means g.B.Bus.steps (stage_of_station s h c.args.self) n
+                (Ok w.in-Ok.order) (line_replies n e.1) (stage_of_station done.0 done.1 e.0)) (sym w.station-is)
+                (w.obey.result.1, done.2, refl)),
+            subst
+                (λ e. StageIsReached g.B.Bus.means g.B.Bus.steps (stage_of_station s h c.args.self)
+                → StageIsPromised g.B.Bus.means g.B.Bus.steps (stage_of_station done.0 done.1 e.0)) (sym w.station-is)
+                done.3,
           ))
       | in-Err w ↦ (
         s,
         h,
-        subst₂ (λ o rs. Heeds g.B.Bus.means g.B.Bus.steps (stage s h c.args.self) n o rs (stage s h c.match-read.station.0)) w.in-Err.ensures said
-            (subst (λ e. Heeds g.B.Bus.means g.B.Bus.steps (stage s h c.args.self) n (Err w.in-Err.fault) (answered n e.1) (stage s h e.0)) (sym w.station-is) (refl, refl)),
-        subst (λ e. IsReached g.B.Bus.means g.B.Bus.steps (stage s h c.args.self) → IsPromised g.B.Bus.means g.B.Bus.steps (stage s h e.0)) (sym w.station-is) (promised c.promise.ensures (stage s h c.args.self)),
+        subst₂
+            (λ o rs. AnswersLine g.B.Bus.means g.B.Bus.steps (stage_of_station s h c.args.self) n o rs
+            (stage_of_station s h c.match-read.station.0)) w.in-Err.ensures said
+            (subst
+            (λ e. AnswersLine g.B.Bus.means g.B.Bus.steps (stage_of_station s h c.args.self) n (Err w.in-Err.fault)
+            (line_replies n e.1) (stage_of_station s h e.0)) (sym w.station-is) (refl, refl)),
+        subst
+            (λ e. StageIsReached g.B.Bus.means g.B.Bus.steps (stage_of_station s h c.args.self)
+            → StageIsPromised g.B.Bus.means g.B.Bus.steps (stage_of_station s h e.0)) (sym w.station-is)
+            (promised c.promise.ensures (stage_of_station s h c.args.self)),
       )
     ]

@@ -1,30 +1,36 @@
 use Rattle.std.proofs.Common.{◌≡◌, sym, refl, ap, ◌∙◌, subst, subst₂}
-use Rattle.r3000.specs.Core.{machine}
-use Rattle.r3000.specs.Machine.{fresh}
-use Rattle.jobs.specs.Station.{IsPromised, IsReached, Obeys, loading, running, stage}
+use Rattle.r3000.specs.Core.{machine_of}
+use Rattle.r3000.specs.Machine.{no_history}
+use Rattle.jobs.specs.Decision.{decision}
+use Rattle.jobs.specs.Station.{StageIsPromised, StageIsReached, AnswersOrder, loading, running, stage_of_station}
 use Rattle.jobs.proofs.Promised.{early_promised}
 use Rattle.jobs.proofs.station.Station.obey.Goals as goal
 
 pub returns-in_default : goal.returns-in_default
 returns-in_default g c s h =
     let here = c.args.self.pile in
-    let after = stage here fresh c.early.result.0 in
-    let before : stage s h c.args.self ≡ loading here = λ i. stage s h (record { pile = here; processor = c.in_default.is i }) in (
+    let after = stage_of_station here no_history c.early.result.0 in
+    let before : stage_of_station s h c.args.self ≡ loading here =
+    λ i. stage_of_station s h (record { pile = here; processor = c.in_default.is i }) in (
       here,
-      fresh,
-      subst (λ e. Obeys g.B.Bus.means g.B.Bus.steps e c.args.order c.early.result.1 after) (sym before) c.early.ensures,
-      λ r. early_promised c.promise.ensures here c.args.order c.early.result.1 after c.early.ensures,
+      no_history,
+      subst (λ e. AnswersOrder g.B.Bus.means g.B.Bus.steps e c.args.order c.early.result.1 after) (sym before)
+          c.early.ensures,
+      λ r. early_promised c.promise.ensures here (decision c.args.order).before c.early.result.1 after c.early.ensures,
     )
 
 pub returns : goal.returns
 returns g c s h =
     let done = c.late-reply.ensures h in
-    let after = machine done.0 c.late-reply.new.core in
-    let before : stage s h c.args.self ≡ running s (machine h c.from_parts-core.result) =
-    (λ i. stage s h (record { pile = c.args.self.pile; processor = c.in-Some.is i })) ∙ sym (ap (running s) (c.from_parts-core.ensures h))
+    let after = machine_of done.0 c.late-reply.new.core in
+    let before : stage_of_station s h c.args.self ≡ running s (machine_of h c.from_parts-core.result) =
+    (λ i. stage_of_station s h (record { pile = c.args.self.pile; processor = c.in-Some.is i }))
+    ∙ sym (ap (running s) (c.from_parts-core.ensures h))
     in (
       s,
       done.0,
-      subst₂ (λ e f. Obeys g.B.Bus.means g.B.Bus.steps e c.args.order c.late-reply.result f) (sym before) (sym (c.running.ensures s done.0)) (after, done.1, refl),
-      subst₂ (λ e f. IsReached g.B.Bus.means g.B.Bus.steps e → IsPromised g.B.Bus.means g.B.Bus.steps f) (sym before) (sym (c.running.ensures s done.0)) (done.2 s),
+      subst₂ (λ e f. AnswersOrder g.B.Bus.means g.B.Bus.steps e c.args.order c.late-reply.result f) (sym before)
+          (sym (c.running.ensures s done.0)) (after, done.1, refl),
+      subst₂ (λ e f. StageIsReached g.B.Bus.means g.B.Bus.steps e → StageIsPromised g.B.Bus.means g.B.Bus.steps f)
+          (sym before) (sym (c.running.ensures s done.0)) (done.2 s),
     )

@@ -1,8 +1,8 @@
 use Rattle.std.proofs.Common.{refl}
-use Rattle.r3000.specs.Core.{machine}
+use Rattle.r3000.specs.Core.{machine_of}
 use Rattle.r3000.proofs.Upheld.{stays}
 use Rattle.r3000.proofs.cpu.Core.ledger.Goals as goal
 
 pub returns-clause-core : goal.returns-clause-core
 returns-clause-core g c h =
-    (h, refl, stays c.promise.ensures (machine h c.args.self.now) (machine h c.args.self.now) refl)
+    (h, refl, stays c.promise.ensures (machine_of h c.args.self.now) (machine_of h c.args.self.now) refl)
