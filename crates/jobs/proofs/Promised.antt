@@ -10,7 +10,7 @@ use Rattle.jobs.specs.declared.fault.JobFault.{JobFault}
 use Rattle.text.specs.declared.reply.Reply.{Reply}
 use Rattle.r3000.specs.Machine.{core_at_power_up}
 use Rattle.r3000.specs.Promise.{AllKeepPromise}
-use Rattle.r3000.specs.Reached.{StageIsReached}
+use Rattle.r3000.specs.Reached.{IsReached}
 
 module _ {S : Type 0} {means : S → Meaning} {steps : S → Request → Answer → S → Type 0}
     (kept : (start : S) → AllKeepPromise means steps start) where
@@ -25,7 +25,7 @@ module _ {S : Type 0} {means : S → Meaning} {steps : S → Request → Answer 
   early_does s (effect.store address word) r e h = subst (StageIsPromised means steps) (sym h.4) tt
   early_does s power_up r e h =
       subst (StageIsPromised means steps) (sym h.1)
-      (record { reached = StageIsReached.power_up; promise = kept s (core_at_power_up s) StageIsReached.power_up })
+      (record { reached = IsReached.power_up; promise = kept s (core_at_power_up s) IsReached.power_up })
 
   pub early_promised : (s : S) (x : Result EarlyEffect JobFault) (r : Result Reply JobFault) (e : Stage S)
       → EarlyAnswers means steps s x r e → StageIsPromised means steps e

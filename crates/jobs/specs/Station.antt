@@ -17,8 +17,8 @@ use Rattle.jobs.specs.declared.station.Station.{Station}
 use Rattle.r3000.specs.Core.{machine_of_parts}
 use Rattle.r3000.specs.Cycle.{Cycles}
 use Rattle.r3000.specs.Machine.{History, Machine, core_at_power_up, with_lines}
-use Rattle.r3000.specs.Promise.{StageIsPromised, Upholds}
-use Rattle.r3000.specs.Reached.{StageIsReached}
+use Rattle.r3000.specs.Promise.{IsPromised, Upholds}
+use Rattle.r3000.specs.Reached.{IsReached}
 use Rattle.r3000.specs.declared.report.Report.{Report}
 use Rattle.text.specs.declared.order.Order.{Order}
 use Rattle.text.specs.declared.reply.Reply.{Reply}
@@ -81,12 +81,12 @@ module _ {S : Type 0} (means : S → Meaning) (steps : S → Request → Answer 
   -- the core, if there is one, can be reached on the pile that it was built on
   abbrev pub StageIsReached : Stage S → Type 0
   StageIsReached (loading s) = Unit {0}
-  StageIsReached (running s c) = StageIsReached steps s c
+  StageIsReached (running s c) = IsReached steps s c
 
   -- and the promise holds of it
   abbrev pub StageIsPromised : Stage S → Type 0
   StageIsPromised (loading s) = Unit {0}
-  StageIsPromised (running s c) = StageIsPromised means steps s c
+  StageIsPromised (running s c) = IsPromised means steps s c
 
 -- the code's station, on the pile of its start and with a history behind it
 abbrev pub stage_of_station : {B : Type 0} → B → History → Station B → Stage B

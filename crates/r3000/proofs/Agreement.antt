@@ -74,9 +74,6 @@ module _ {S : Type 0} {means : S → Meaning} {steps : S → Request → Answer 
   pub way_start : OnTheWay no_history (core_at_power_up start)
   unfolding ticks
   way_start =
-      let first : Fit (begun (means start).byte)
-      × Stands (begun (means start).byte) (record { state = powered; bytes = (means start).byte }) =
-      below.begins (means start).byte (keeps.sound start).bytes in
       record {
         refuses = refl;
         fit = below.fits (means start).byte (keeps.sound start).bytes;

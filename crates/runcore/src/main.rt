@@ -1,9 +1,12 @@
-//! Runs a small piece of firmware on a core and prints every call, with what it answered and what it changed.
+//! Runs firmware that ends on a core while interrupts come in, and prints every call, with what it answered and what it
+//! changed.
 
 #![tactic(auto)]
 
 mod firmware;
 mod script;
+#[cfg(test)]
+mod tests;
 mod transcript;
 
 use anyhow::Context;

@@ -12,6 +12,7 @@ returns g c =
       memory = paths.memory;
       paths = paths.paths;
       begins = paths.begins;
+      fits = book.begins;
       words = book.words;
       some = book.longest.some;
       rows = subst RowsEnd rows.value rows.bounded;
