@@ -3,9 +3,9 @@
 ghost use Rattle.std.specs.Prelude.{◌≡◌, IsTrue, ◌↔◌};
 ghost use Rattle.replies.specs.Replies.{answer_text};
 
-use text::writing::text;
 use pile::job::Memories;
 use replies::Replies;
+use text::writing::text;
 
 /// A job, and the bytes of its replies, as the rules give them.
 #[derive(Clone, Copy)]

@@ -6,12 +6,12 @@ use super::{
     products, programs, reading, resets, system, user, user_memory,
 };
 use jobs::whole::last_reply;
-use text::reply::Reply;
 use pile::job::Memories;
 use replies::example::first_job;
 use std::alloc::{AllocError, Global};
 use std::process::Abort;
 use std::test::Fail;
+use text::reply::Reply;
 
 /// Stops at the first case of a table that is answered otherwise, and names it by its place, from 0.
 fn hold(rt: &impl Abort, table: &str, cases: &[Case]) {
