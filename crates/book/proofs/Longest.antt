@@ -1,11 +1,11 @@
 -- No step takes more than seven cycles. Assumes nothing.
-use Rattle.std.proofs.Common.{◌≡◌, ℕ, ◌<◌, ◌≤◌, Bool, true, false, cond, ◌&&◌, T, eqb, leb, replicate, refl, arith}
+use Rattle.std.proofs.Common.{◌≡◌, ℕ, ◌<◌, ◌≤◌, Bool, true, false, cond, ◌&&◌, T, eqb, leb, refl, arith}
 use Rattle.std.proofs.lemmas.Bool.{and_parts, leb-true}
-use Rattle.machine.specs.Ledger.{blank}
-use Rattle.machine.specs.Registers.{Regs}
-use Rattle.book.specs.Book.{Book, Event, risen}
+use Rattle.machine.specs.Ledger.{blank_ledger}
+use Rattle.machine.specs.Registers.{Regs, zero_regs}
+use Rattle.book.specs.Book.{Book, Event, pc_risen}
 use Rattle.book.specs.Instruction.{Instruction, decoded}
-use Rattle.book.specs.Length.{LongestStep, length_of, long, moved}
+use Rattle.book.specs.Length.{LongestStep, instruction_length, length_of, system_move_length}
 
 -- from one to seven
 record Few (n : ℕ) : Type 0 where
@@ -27,10 +27,10 @@ pick : (t : Bool) (m n : ℕ) → Few m → Few n → Few (elim t [ true ↦ m |
 pick true m n h k = h
 pick false m n h k = k
 
-moved_bound : (n : ℕ) → Few (moved n)
+moved_bound : (n : ℕ) → Few (system_move_length n)
 moved_bound n = pick (eqb n 8) _ _ (lasts tt) (pick (eqb n 12) _ _ (lasts tt) (pick (eqb n 13) _ _ (lasts tt) (pick (eqb n 14) _ _ (lasts tt) (lasts tt))))
 
-long_bound : (i : Instruction) (g : Regs) → Few (long i g)
+long_bound : (i : Instruction) (g : Regs) → Few (instruction_length i g)
 long_bound (Instruction.shift_fixed op) g = lasts tt
 long_bound (Instruction.shift_by op) g = lasts tt
 long_bound (Instruction.compute op) g = lasts tt
@@ -74,16 +74,16 @@ bound : (b : Book) (v : Event) → Few (length_of b v)
 bound b Event.reset = lasts tt
 bound b (Event.exception c) = lasts tt
 bound b Event.interrupt = lasts tt
-bound b Event.run = long_bound (decoded b.regs.ir) (risen b)
+bound b Event.run = long_bound (decoded b.regs.ir) (pc_risen b)
 
 -- BGEZAL of register 0
 linking : Book
 linking =
     record {
-      regs = record { general = replicate 32 0; pc = 0; hi = 0; lo = 0; sr = 0; cr = 0; epc = 0; bar = 0; ad = 0; ir = 0x04110000 };
-      ledger = replicate 16 blank;
+      regs = record zero_regs { ir = 0x04110000 };
+      ledger = blank_ledger;
       bytes = λ x. 0;
-      lines = 0;
+      sampled = 0;
       event = Event.run;
     }
 

@@ -1,27 +1,28 @@
 -- Worked cases of the book. Assumes nothing.
 use Rattle.std.specs.Prelude.{◌≡◌, ℕ, false, ◌∷◌, replicate, ◌==◌}
-use Rattle.machine.specs.Interrupt.{cause}
-use Rattle.machine.specs.Ledger.{blank}
+use Rattle.machine.specs.Interrupt.{cr_code}
+use Rattle.machine.specs.Ledger.{blank_ledger}
+use Rattle.machine.specs.Registers.{zero_regs}
 use Rattle.book.specs.Book.{Book, Event, Refusals, step}
 use Rattle.book.specs.declared.law.WorkedCases.{WorkedCases}
 
 -- a machine about to run an instruction, with PC, two general registers and SR; all else is zero
-abbrev running : ℕ → ℕ → ℕ → ℕ → ℕ → Book
-running ir pc one two sr =
+abbrev about_to_run : ℕ → ℕ → ℕ → ℕ → ℕ → Book
+about_to_run ir pc one two sr =
     record {
-      regs = record { general = 0 ∷ one ∷ two ∷ replicate 29 0; pc = pc; hi = 0; lo = 0; sr = sr; cr = 0; epc = 0; bar = 0; ad = 0; ir = ir };
-      ledger = replicate 16 blank;
+      regs = record zero_regs { general = 0 ∷ one ∷ two ∷ replicate 29 0; pc = pc; sr = sr; ir = ir };
+      ledger = blank_ledger;
       bytes = λ x. 0;
-      lines = 0;
+      sampled = 0;
       event = Event.run;
     }
 
 -- a memory that refuses nothing, and one that refuses the word at 80004000 to reads
-abbrev free : Refusals
-free = record { unreadable = λ w. false; unwritable = λ w. false }
+abbrev nothing_refused : Refusals
+nothing_refused = record { unreadable = λ w. false; unwritable = λ w. false }
 
-abbrev short : Refusals
-short = record { unreadable = λ w. (w == 0x80004000); unwritable = λ w. false }
+abbrev word_refused : Refusals
+word_refused = record { unreadable = λ w. (w == 0x80004000); unwritable = λ w. false }
 
 -- one step, and two, with no line up
 abbrev once : Refusals → Book → Book
@@ -33,25 +34,25 @@ twice r b = step r 0 (step r 0 b)
 -- the words are what the book comes to
 pub record Worked (w : WorkedCases) : Type 0 where
   -- ADD of 7FFFFFFF and 1 enters with a code, and BAR has the sum
-  pub add_code : w.add_code ≡ cause (twice free (running 0x00221820 0 0x7FFFFFFF 1 0)).regs.cr
-  pub add_bar : w.add_bar ≡ (twice free (running 0x00221820 0 0x7FFFFFFF 1 0)).regs.bar
+  pub add_code : w.add_code ≡ cr_code (twice nothing_refused (about_to_run 0x00221820 0 0x7FFFFFFF 1 0)).regs.cr
+  pub add_bar : w.add_bar ≡ (twice nothing_refused (about_to_run 0x00221820 0 0x7FFFFFFF 1 0)).regs.bar
   -- DIV of 80000000 by FFFFFFFF
-  pub least_quotient : w.least_quotient ≡ (once free (running 0x0022001A 0 0x80000000 0xFFFFFFFF 0)).regs.lo
-  pub least_remainder : w.least_remainder ≡ (once free (running 0x0022001A 0 0x80000000 0xFFFFFFFF 0)).regs.hi
+  pub least_quotient : w.least_quotient ≡ (once nothing_refused (about_to_run 0x0022001A 0 0x80000000 0xFFFFFFFF 0)).regs.lo
+  pub least_remainder : w.least_remainder ≡ (once nothing_refused (about_to_run 0x0022001A 0 0x80000000 0xFFFFFFFF 0)).regs.hi
   -- DIV of -7 by 2 cuts toward zero
-  pub odd_quotient : w.odd_quotient ≡ (once free (running 0x0022001A 0 0xFFFFFFF9 2 0)).regs.lo
-  pub odd_remainder : w.odd_remainder ≡ (once free (running 0x0022001A 0 0xFFFFFFF9 2 0)).regs.hi
+  pub odd_quotient : w.odd_quotient ≡ (once nothing_refused (about_to_run 0x0022001A 0 0xFFFFFFF9 2 0)).regs.lo
+  pub odd_remainder : w.odd_remainder ≡ (once nothing_refused (about_to_run 0x0022001A 0 0xFFFFFFF9 2 0)).regs.hi
   -- DIVU of 7 by 0
-  pub zero_quotient : w.zero_quotient ≡ (once free (running 0x0022001B 0 7 0 0)).regs.lo
-  pub zero_remainder : w.zero_remainder ≡ (once free (running 0x0022001B 0 7 0 0)).regs.hi
+  pub zero_quotient : w.zero_quotient ≡ (once nothing_refused (about_to_run 0x0022001B 0 7 0 0)).regs.lo
+  pub zero_remainder : w.zero_remainder ≡ (once nothing_refused (about_to_run 0x0022001B 0 7 0 0)).regs.hi
   -- JALR at 80000100 whose rd is its rs reads the link that it has just written
-  pub link_first : w.link_first ≡ (once free (running 0x00200809 0x80000100 0x1000 0 0)).regs.pc
+  pub link_first : w.link_first ≡ (once nothing_refused (about_to_run 0x00200809 0x80000100 0x1000 0 0)).regs.pc
   -- SR 00000401, IT0 up at the boundary before PC 80000200: the entry saves PC itself
-  pub interrupt_epc : w.interrupt_epc ≡ (step free 0 (step free 1 (running 0 0x800001FC 0 0 0x401))).regs.epc
-  pub interrupt_sr : w.interrupt_sr ≡ (step free 0 (step free 1 (running 0 0x800001FC 0 0 0x401))).regs.sr
+  pub interrupt_epc : w.interrupt_epc ≡ (step nothing_refused 0 (step nothing_refused 1 (about_to_run 0 0x800001FC 0 0 0x401))).regs.epc
+  pub interrupt_sr : w.interrupt_sr ≡ (step nothing_refused 0 (step nothing_refused 1 (about_to_run 0 0x800001FC 0 0 0x401))).regs.sr
   -- a fetch that is refused at 80004000
-  pub fetch_epc : w.fetch_epc ≡ (twice short (running 0 0x80003FFC 0 0 0)).regs.epc
-  pub fetch_code : w.fetch_code ≡ cause (twice short (running 0 0x80003FFC 0 0 0)).regs.cr
+  pub fetch_epc : w.fetch_epc ≡ (twice word_refused (about_to_run 0 0x80003FFC 0 0 0)).regs.epc
+  pub fetch_code : w.fetch_code ≡ cr_code (twice word_refused (about_to_run 0 0x80003FFC 0 0 0)).regs.cr
   -- LW at 80000002
-  pub load_code : w.load_code ≡ cause (twice free (running 0x8C220000 0 0x80000002 0 0)).regs.cr
-  pub load_bar : w.load_bar ≡ (twice free (running 0x8C220000 0 0x80000002 0 0)).regs.bar
+  pub load_code : w.load_code ≡ cr_code (twice nothing_refused (about_to_run 0x8C220000 0 0x80000002 0 0)).regs.cr
+  pub load_bar : w.load_bar ≡ (twice nothing_refused (about_to_run 0x8C220000 0 0x80000002 0 0)).regs.bar

@@ -1,7 +1,7 @@
 -- The book's registers hold words, and its memory bytes. Assumes nothing.
 use Rattle.std.specs.Prelude.{ℕ, ◌^◌, ◌<◌}
 use Rattle.machine.specs.Registers.{Regs, reg}
-use Rattle.book.specs.Book.{Book, Refusals, begun, step}
+use Rattle.book.specs.Book.{Book, Refusals, first_state, step}
 
 -- registers hold words
 pub record Words (g : Regs) : Type 0 where
@@ -27,4 +27,4 @@ StepsFit = (r : Refusals) (lines : ℕ) (b : Book) → Fit b → Fit (step r lin
 
 -- and it begins so over any bytes
 abbrev pub BeginsFit : Type 0
-BeginsFit = (bytes : ℕ → ℕ) → ((address : ℕ) → bytes address < 256) → Fit (begun bytes)
+BeginsFit = (bytes : ℕ → ℕ) → ((address : ℕ) → bytes address < 256) → Fit (first_state bytes)

@@ -1,6 +1,6 @@
 -- The instructions and how a word is decoded. Assumes nothing.
 use Rattle.std.specs.Prelude.{ℕ, Bool, true, false, List, [], ◌∷◌, ◌==◌}
-use Rattle.machine.specs.Word.{bit, function, opcode, system}
+use Rattle.machine.specs.Word.{bit, function, opcode, system_number}
 use Rattle.machine.specs.declared.operation.Operation.{Operation}
 use Rattle.machine.specs.declared.operation.Operation.TheVariants.{
   Sum,
@@ -78,9 +78,9 @@ pub data Instruction : Type 0 where
   unassigned_function : Instruction
 
 -- what a table has under a number
-abbrev pub under : {A : Type 0} → ℕ → List (ℕ × A) → A → A
-under n [] other = other
-under n (e ∷ es) other = elim (n == e.0) [ true ↦ e.1 | false ↦ under n es other ]
+abbrev pub table_entry : {A : Type 0} → ℕ → List (ℕ × A) → A → A
+table_entry n [] other = other
+table_entry n (e ∷ es) other = elim (n == e.0) [ true ↦ e.1 | false ↦ table_entry n es other ]
 
 -- by IR bits 5 to 0
 abbrev pub functions : List (ℕ × Instruction)
@@ -116,22 +116,22 @@ functions =
     ∷ []
 
 -- IR bit 16 and, for the link, bit 20
-abbrev pub branches : ℕ → Instruction
-branches ir = elim (bit 16 ir) [ true ↦ branch_not_below (bit 20 ir) | false ↦ branch_below (bit 20 ir) ]
+abbrev pub branch_instruction : ℕ → Instruction
+branch_instruction ir = elim (bit 16 ir) [ true ↦ branch_not_below (bit 20 ir) | false ↦ branch_below (bit 20 ir) ]
 
 -- IR bit 25 alone makes a return; else bit 23 tells to from from
-abbrev pub systems : ℕ → Instruction
-systems ir =
+abbrev pub system_instruction : ℕ → Instruction
+system_instruction ir =
     elim (bit 25 ir) [
       | true ↦ return_from_exception
-      | false ↦ elim (bit 23 ir) [ true ↦ move_to_system (system ir) | false ↦ move_from_system (system ir) ]
+      | false ↦ elim (bit 23 ir) [ true ↦ move_to_system (system_number ir) | false ↦ move_from_system (system_number ir) ]
     ]
 
 -- by IR bits 31 to 26
 abbrev pub opcodes : ℕ → List (ℕ × Instruction)
 opcodes ir =
-    (0, under (function ir) functions unassigned_function)
-    ∷ (1, branches ir)
+    (0, table_entry (function ir) functions unassigned_function)
+    ∷ (1, branch_instruction ir)
     ∷ (2, jump)
     ∷ (3, jump_link)
     ∷ (4, branch_equal)
@@ -146,7 +146,7 @@ opcodes ir =
     ∷ (13, compute_plain Or)
     ∷ (14, compute_plain Xor)
     ∷ (15, load_upper)
-    ∷ (16, systems ir)
+    ∷ (16, system_instruction ir)
     ∷ (32, load_byte true)
     ∷ (33, load_half true)
     ∷ (35, load_word)
@@ -158,4 +158,4 @@ opcodes ir =
     ∷ []
 
 abbrev pub decoded : ℕ → Instruction
-decoded ir = under (opcode ir) (opcodes ir) unassigned_opcode
+decoded ir = table_entry (opcode ir) (opcodes ir) unassigned_opcode

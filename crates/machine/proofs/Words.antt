@@ -1,13 +1,13 @@
 -- What is written into registers are words. Assumes nothing.
-use Rattle.std.proofs.Common.{◌≡◌, ℕ, zero, suc, ◌+◌, ◌-◌, ◌*◌, ◌/◌, ◌%◌, ◌^◌, ◌<◌, Bool, true, false, cond, eqb, ltb, List, [], ◌∷◌, get_or, set, ℤ, pos, negsuc, div-le_self, arith}
+use Rattle.std.proofs.Common.{ℕ, zero, suc, ◌+◌, ◌-◌, ◌*◌, ◌/◌, ◌%◌, ◌^◌, ◌<◌, Bool, true, false, cond, eqb, ltb, List, [], ◌∷◌, get_or, set, ℤ, pos, negsuc, div-le_self, arith}
 use lib.Bits.{bit_or}
 use Rattle.std.proofs.lemmas.Bool.{cond_both}
 use Rattle.std.proofs.lemmas.Nat.{and_le_l, div_below, mul-lt, or_lt, shr_le, xor_lt}
 use Rattle.machine.specs.Fault.{code}
-use Rattle.machine.specs.Interrupt.{causes}
+use Rattle.machine.specs.Interrupt.{cr_with_lines}
 use Rattle.machine.specs.Operation.{one_if, residue, result_of}
-use Rattle.machine.specs.Registers.{Regs, put, reg}
-use Rattle.machine.specs.Word.{extended, immediate, target}
+use Rattle.machine.specs.Registers.{Regs, reg, with_register}
+use Rattle.machine.specs.Word.{immediate, jump_index, signed_immediate}
 use Rattle.machine.specs.Words.{WordsStayWords}
 use Rattle.machine.specs.declared.fault.Fault.{Fault}
 use Rattle.machine.specs.declared.operation.Operation.{Operation}
@@ -53,7 +53,7 @@ put_if : (l : List ℕ) (i j v : ℕ) → v < 2 ^ 32 → ((n : ℕ) → get_or l
 put_if l i j v small h true = h j
 put_if l i j v small h false = get_or-set_small l i j v small h
 
-put_small : (g : Regs) (i j v : ℕ) → v < 2 ^ 32 → ((n : ℕ) → reg g n < 2 ^ 32) → reg (put i v g) j < 2 ^ 32
+put_small : (g : Regs) (i j v : ℕ) → v < 2 ^ 32 → ((n : ℕ) → reg g n < 2 ^ 32) → reg (with_register i v g) j < 2 ^ 32
 put_small g i j v small h = put_if g.general i j v small h (eqb i 0)
 
 residue_below : (z : ℤ) (n : ℕ) → 0 < n → residue z n < n
@@ -85,15 +85,15 @@ result_small Dur x y p q = pick (λ n. n < 2 ^ 32) (eqb y 0) p (omega arith)
 result_small Dsq x y p q = pick (λ n. n < 2 ^ 32) (eqb y 0) (omega arith) (residue_below _ _ (omega arith))
 result_small Dsr x y p q = pick (λ n. n < 2 ^ 32) (eqb y 0) p (residue_below _ _ (omega arith))
 
-extended_small : (ir : ℕ) → extended ir < 2 ^ 32
+extended_small : (ir : ℕ) → signed_immediate ir < 2 ^ 32
 extended_small ir =
     cond_both (ltb (immediate ir) (2 ^ 15)) (immediate ir) (immediate ir + (2 ^ 32 - 2 ^ 16)) (λ n. n < 2 ^ 32) (λ t. omega arith) (λ t. omega arith)
 
 -- the target of a jump is a word
-joined_small : (pc ir : ℕ) → pc < 2 ^ 32 → bit_or (pc / 2 ^ 28 * 2 ^ 28) (target ir) < 2 ^ 32
-joined_small pc ir h = or_lt 32 (pc / 2 ^ 28 * 2 ^ 28) (target ir) (omega arith) (omega arith)
+joined_small : (pc ir : ℕ) → pc < 2 ^ 32 → bit_or (pc / 2 ^ 28 * 2 ^ 28) (jump_index ir) < 2 ^ 32
+joined_small pc ir h = or_lt 32 (pc / 2 ^ 28 * 2 ^ 28) (jump_index ir) (omega arith) (omega arith)
 
-causes_small : (lines cr : ℕ) → cr < 2 ^ 32 → causes lines cr < 2 ^ 32
+causes_small : (lines cr : ℕ) → cr < 2 ^ 32 → cr_with_lines lines cr < 2 ^ 32
 causes_small lines cr h = omega arith
 
 code_small : (c : Fault) → code c < 16

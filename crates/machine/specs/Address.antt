@@ -3,12 +3,12 @@ use Rattle.std.specs.Prelude.{ℕ, ◌%◌, Bool, not, ◌&&◌, ◌||◌, ◌==
 use Rattle.machine.specs.Word.{bit}
 
 -- user mode is SR bit 1
-abbrev pub user : ℕ → Bool
-user sr = bit 1 sr
+abbrev pub user_mode : ℕ → Bool
+user_mode sr = bit 1 sr
 
 -- user mode may not use an address with bit 31
 abbrev pub barred : ℕ → ℕ → Bool
-barred sr address = user sr && bit 31 address
+barred sr address = user_mode sr && bit 31 address
 
 -- an address that is no multiple of the size, or that user mode may not use
 abbrev pub misplaced : ℕ → ℕ → ℕ → Bool

@@ -18,20 +18,20 @@ code_of None = 0
 code_of (Some f) = code f
 
 -- CR as it is read: bits 15 to 10 are the lines IT5 to IT0 as they stood at the last boundary
-abbrev pub causes : ℕ → ℕ → ℕ
-causes lines cr = cr / 65536 * 65536 + lines % 64 * 1024 + cr % 1024
+abbrev pub cr_with_lines : ℕ → ℕ → ℕ
+cr_with_lines lines cr = cr / 65536 * 65536 + lines % 64 * 1024 + cr % 1024
 
 -- entry: SR's low six bits move left by two, zeros entering, and the code goes to CR's low six bits, times 4
-abbrev pub entered : ℕ → ℕ
-entered sr = sr / 64 * 64 + sr * 4 % 64
+abbrev pub sr_on_entry : ℕ → ℕ
+sr_on_entry sr = sr / 64 * 64 + sr * 4 % 64
 
-abbrev pub caused : ℕ → ℕ → ℕ
-caused code cr = cr / 64 * 64 + code * 4
+abbrev pub cr_on_entry : ℕ → ℕ → ℕ
+cr_on_entry code cr = cr / 64 * 64 + code * 4
 
 -- return: SR bits 5 to 2 are copied to bits 3 to 0
-abbrev pub restored : ℕ → ℕ
-restored sr = sr / 16 * 16 + sr / 4 % 16
+abbrev pub sr_on_return : ℕ → ℕ
+sr_on_return sr = sr / 16 * 16 + sr / 4 % 16
 
 -- the code in CR
-abbrev pub cause : ℕ → ℕ
-cause cr = cr / 4 % 16
+abbrev pub cr_code : ℕ → ℕ
+cr_code cr = cr / 4 % 16

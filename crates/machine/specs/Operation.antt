@@ -26,8 +26,8 @@ use Rattle.machine.specs.declared.operation.Operation.TheVariants.{
 }
 
 -- the integer that a word stands for in two's complement: from 2 ^ 31 up it is 2 ^ 32 less
-abbrev pub signed : ℕ → ℤ
-signed x = cast_signed w32 x
+abbrev pub integer_of : ℕ → ℤ
+integer_of x = cast_signed w32 x
 
 -- the number from 0 to m - 1 that differs from an integer by a multiple of m
 abbrev pub residue : ℤ → ℕ → ℕ
@@ -55,26 +55,26 @@ result_of Nor x y = 2 ^ 32 - 1 - bit_or x y
 -- shifts take the low five bits of Y; SRA rounds down, which copies the sign
 result_of Sll x y = (x * 2 ^ (y % 32)) % 2 ^ 32
 result_of Srl x y = x / 2 ^ (y % 32)
-result_of Sra x y = word (shr_z (signed x) (2 ^ (y % 32)))
+result_of Sra x y = word (shr_z (integer_of x) (2 ^ (y % 32)))
 result_of Sltu x y = one_if (nat_lt x y)
-result_of Slt x y = one_if (int_lt (signed x) (signed y))
+result_of Slt x y = one_if (int_lt (integer_of x) (integer_of y))
 -- the low and the high half of a product of 64 bits, unsigned and signed
 result_of Mul x y = (x * y) % 2 ^ 32
 result_of Muh x y = (x * y) / 2 ^ 32
-result_of Msl x y = word (signed x *ℤ signed y)
-result_of Msh x y = residue (signed x *ℤ signed y) (2 ^ 64) / 2 ^ 32
+result_of Msl x y = word (integer_of x *ℤ integer_of y)
+result_of Msh x y = residue (integer_of x *ℤ integer_of y) (2 ^ 64) / 2 ^ 32
 -- quotient and remainder; a divisor 0 gives FFFFFFFF and X; signed division cuts toward zero
 result_of Duq x y = cond (y == 0) (2 ^ 32 - 1) (x / y)
 result_of Dur x y = cond (y == 0) x (x - x / y * y)
-result_of Dsq x y = cond (y == 0) (2 ^ 32 - 1) (word (int_div (signed x) (signed y)))
-result_of Dsr x y = cond (y == 0) x (word (signed x -ℤ int_div (signed x) (signed y) *ℤ signed y))
+result_of Dsq x y = cond (y == 0) (2 ^ 32 - 1) (word (int_div (integer_of x) (integer_of y)))
+result_of Dsr x y = cond (y == 0) x (word (integer_of x -ℤ int_div (integer_of x) (integer_of y) *ℤ integer_of y))
 
 -- signed overflow: a sum or a difference of integers that no word stands for; no other operation overflows
 abbrev pub overflow : Operation → ℕ → ℕ → Bool
-overflow Sum x y = not (fits (signed x +ℤ signed y))
-overflow Dif x y = not (fits (signed x -ℤ signed y))
+overflow Sum x y = not (fits (integer_of x +ℤ integer_of y))
+overflow Dif x y = not (fits (integer_of x -ℤ integer_of y))
 overflow _ x y = false
 
 -- the three things that an operation gives together: RES, signed overflow, and whether RES is zero
-abbrev pub operated : Operation → ℕ → ℕ → ℕ × Bool × Bool
-operated op x y = (result_of op x y, overflow op x y, (result_of op x y == 0))
+abbrev pub box_output : Operation → ℕ → ℕ → ℕ × Bool × Bool
+box_output op x y = (result_of op x y, overflow op x y, (result_of op x y == 0))

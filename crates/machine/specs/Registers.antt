@@ -1,5 +1,5 @@
 -- The registers. Assumes nothing.
-use Rattle.std.specs.Prelude.{ℕ, cond, List, ◌==◌, slice_index, slice_set}
+use Rattle.std.specs.Prelude.{ℕ, cond, List, replicate, ◌==◌, slice_index, slice_set}
 use Rattle.machine.specs.declared.registers.Registers.{Registers}
 
 -- all registers but DT
@@ -16,8 +16,12 @@ pub record Regs : Type 0 where
   pub ir : ℕ
 
 -- what the code's record holds of them
-abbrev pub held : Registers → Regs
-held g = record { general = g.general; pc = g.pc; hi = g.hi; lo = g.lo; sr = g.sr; cr = g.cr; epc = g.epc; bar = g.bar; ad = g.ad; ir = g.ir }
+abbrev pub regs_of : Registers → Regs
+regs_of g = record { general = g.general; pc = g.pc; hi = g.hi; lo = g.lo; sr = g.sr; cr = g.cr; epc = g.epc; bar = g.bar; ad = g.ad; ir = g.ir }
+
+-- all registers zero
+abbrev pub zero_regs : Regs
+zero_regs = record { general = replicate 32 0; pc = 0; hi = 0; lo = 0; sr = 0; cr = 0; epc = 0; bar = 0; ad = 0; ir = 0 }
 
 -- a general register
 abbrev pub reg : Regs → ℕ → ℕ
@@ -55,8 +59,8 @@ abbrev pub with_ir : ℕ → Regs → Regs
 with_ir v g = record g { ir = v }
 
 -- a write to a general register; register 0 stays
-abbrev pub with_register : ℕ → ℕ → List ℕ → List ℕ
-with_register n v general = cond (n == 0) general (slice_set general n v)
+abbrev pub general_with : ℕ → ℕ → List ℕ → List ℕ
+general_with n v general = cond (n == 0) general (slice_set general n v)
 
-abbrev pub put : ℕ → ℕ → Regs → Regs
-put n v g = with_general (with_register n v g.general) g
+abbrev pub with_register : ℕ → ℕ → Regs → Regs
+with_register n v g = with_general (general_with n v g.general) g

@@ -25,17 +25,17 @@ abbrev pub rd : ℕ → ℕ
 rd ir = field 11 ir
 
 -- the general register that one of these three names
-abbrev pub named : Field → ℕ → ℕ
-named Rs ir = rs ir
-named Rt ir = rt ir
-named Rd ir = rd ir
+abbrev pub register_field : Field → ℕ → ℕ
+register_field Rs ir = rs ir
+register_field Rt ir = rt ir
+register_field Rd ir = rd ir
 
 -- the register number of a move to or from the system registers has four bits
-abbrev pub system : ℕ → ℕ
-system ir = ir / 2 ^ 11 % 16
+abbrev pub system_number : ℕ → ℕ
+system_number ir = ir / 2 ^ 11 % 16
 
-abbrev pub shift : ℕ → ℕ
-shift ir = field 6 ir
+abbrev pub shift_amount : ℕ → ℕ
+shift_amount ir = field 6 ir
 
 abbrev pub function : ℕ → ℕ
 function ir = ir % 64
@@ -44,13 +44,13 @@ abbrev pub immediate : ℕ → ℕ
 immediate ir = ir % 2 ^ 16
 
 -- the immediate with its sign extended to a word
-abbrev pub extended : ℕ → ℕ
-extended ir = cond (nat_lt (immediate ir) (2 ^ 15)) (immediate ir) (immediate ir + (2 ^ 32 - 2 ^ 16))
+abbrev pub signed_immediate : ℕ → ℕ
+signed_immediate ir = cond (nat_lt (immediate ir) (2 ^ 15)) (immediate ir) (immediate ir + (2 ^ 32 - 2 ^ 16))
 
 -- four times that, as a branch counts words
-abbrev pub distance : ℕ → ℕ
-distance ir = extended ir * 4 % 2 ^ 32
+abbrev pub branch_offset : ℕ → ℕ
+branch_offset ir = signed_immediate ir * 4 % 2 ^ 32
 
 -- four times the 26 low bits, as a jump has them
-abbrev pub target : ℕ → ℕ
-target ir = ir % 2 ^ 26 * 4
+abbrev pub jump_index : ℕ → ℕ
+jump_index ir = ir % 2 ^ 26 * 4

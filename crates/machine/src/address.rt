@@ -1,11 +1,11 @@
 //! Which addresses may be used.
 
 ghost use Rattle.std.specs.Prelude.{◌≡◌};
-ghost use Rattle.machine.specs.Address.{barred, misplaced, user};
+ghost use Rattle.machine.specs.Address.{barred, misplaced, user_mode};
 
 /// SR bit 1.
 pub fn is_user_mode(sr: u32) -> bool
-    ensures { result ≡ user sr }
+    ensures { result ≡ user_mode sr }
 {
     sr / 2 % 2 == 1
 }

@@ -1,7 +1,7 @@
 //! The ledger: for each of 16 codes, how often it was entered and the last EPC.
 
 ghost use Rattle.std.specs.Prelude.{◌≡◌, ◌%◌};
-ghost use Rattle.machine.specs.Ledger.{noted};
+ghost use Rattle.machine.specs.Ledger.{with_entry};
 
 #[derive(Clone, Copy, Default)]
 pub struct Entry {
@@ -20,7 +20,7 @@ pub struct Ledger {
 impl Ledger {
     /// One entry more of a code, whose four low bits count.
     pub fn note(&mut self, code: u32, epc: u32)
-        ensures { self.new.entries ≡ noted (code % 16) epc self.old.entries }
+        ensures { self.new.entries ≡ with_entry (code % 16) epc self.old.entries }
     {
         let entry = &mut self.entries[(code % 16) as usize];
         entry.count = entry.count.wrapping_add(1);

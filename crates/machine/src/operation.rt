@@ -1,7 +1,7 @@
 //! The operation box.
 
 ghost use Rattle.std.specs.Prelude.{◌≡◌, Bool};
-ghost use Rattle.machine.specs.Operation.{operated, overflow, result_of};
+ghost use Rattle.machine.specs.Operation.{box_output, overflow, result_of};
 ghost use Rattle.machine.specs.declared.operation.Operation.TheVariants.{Sra, Msl, Msh, Dsq, Dsr};
 
 /// The field ALU of a row.
@@ -114,7 +114,7 @@ impl Operation {
 
 /// RES, signed overflow, and whether RES is zero: a tuple, which the cycle takes apart.
 pub fn operate(operation: Operation, x: u32, y: u32) -> (u32, bool, bool)
-    ensures { result ≡ operated operation x y }
+    ensures { result ≡ box_output operation x y }
 {
     let res = operation.result(x, y);
     (res, operation.overflows(x, y), res == 0)

@@ -1,7 +1,7 @@
 //! The fields of an instruction.
 
 ghost use Rattle.std.specs.Prelude.{◌≡◌, ◌<◌};
-ghost use Rattle.machine.specs.Word.{distance, extended, function, named, opcode, shift, system, target};
+ghost use Rattle.machine.specs.Word.{branch_offset, function, jump_index, opcode, register_field, shift_amount, signed_immediate, system_number};
 
 /// The fields that name general registers, each by the lowest of its five bits.
 #[derive(Clone, Copy)]
@@ -14,7 +14,7 @@ pub enum Field {
 impl Field {
     /// The number of the register that the field names.
     pub fn register(self, ir: u32) -> usize
-        ensures is { result ≡ named self ir }
+        ensures is { result ≡ register_field self ir }
         ensures below { result < 32 }
     {
         ((ir >> self as u32) % 32) as usize
@@ -37,21 +37,21 @@ pub fn function(ir: u32) -> u16
 
 /// Bits 14–11: the number of a system register.
 pub fn system_number(ir: u32) -> u16
-    ensures { result ≡ system ir }
+    ensures { result ≡ system_number ir }
 {
     ((ir >> 11) % 16) as u16
 }
 
 /// Bits 10–6.
 pub fn shift_amount(ir: u32) -> u32
-    ensures { result ≡ shift ir }
+    ensures { result ≡ shift_amount ir }
 {
     (ir >> 6) % 32
 }
 
 /// Bits 15–0, their sign extended.
 pub fn signed_immediate(ir: u32) -> u32
-    ensures { result ≡ extended ir }
+    ensures { result ≡ signed_immediate ir }
 {
     let immediate = (ir % 65_536) as u16;
     i32::from(immediate.cast_signed()).cast_unsigned()
@@ -59,14 +59,14 @@ pub fn signed_immediate(ir: u32) -> u32
 
 /// Four times that.
 pub fn branch_offset(ir: u32) -> u32
-    ensures { result ≡ distance ir }
+    ensures { result ≡ branch_offset ir }
 {
     signed_immediate(ir).wrapping_mul(4)
 }
 
 /// Four times bits 25–0.
 pub fn jump_index(ir: u32) -> u32
-    ensures { result ≡ target ir }
+    ensures { result ≡ jump_index ir }
 {
     ir % 0x400_0000 * 4
 }

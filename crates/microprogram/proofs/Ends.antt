@@ -2,8 +2,8 @@
 use Rattle.std.proofs.Common.{◌≡◌, ℕ, zero, suc, ◌+◌, ◌-◌, ◌<◌, ◌≤◌, Bool, true, false, ◌&&◌, T, ltb, leb, List, [], ◌∷◌, ◌⊎◌, refl, subst, inl, inr, Contains, arith}
 use Rattle.std.proofs.lemmas.Bool.{cases_eq, leb-true, true≢false}
 use Rattle.rows.specs.Rows.{row_at, rows}
-use Rattle.microprogram.specs.Bounds.{IsLeast, RowsEnd, accesses, all, path_budget, sound, successors, within}
-use Rattle.microprogram.specs.Cycle.{ends}
+use Rattle.microprogram.specs.Bounds.{IsLeast, RowsEnd, access_count, all, ends_within, path_budget, row_passes, successors}
+use Rattle.microprogram.specs.Cycle.{ends_path}
 use Rattle.microprogram.specs.declared.bounds.Budget.{Budget}
 use Rattle.microprogram.proofs.Successors.{among}
 
@@ -17,27 +17,27 @@ right false b h = absurd h
 
 unfoldable sound_below : Budget → ℕ → Bool
 sound_below b zero = true
-sound_below b (suc n) = sound b n && sound_below b n
+sound_below b (suc n) = row_passes b n && sound_below b n
 
-at : (b : Budget) (m n : ℕ) → n < m → T (sound_below b m) → T (sound b n)
+at : (b : Budget) (m n : ℕ) → n < m → T (sound_below b m) → T (row_passes b n)
 unfolding sound_below
 at b zero n h t = absurd (omega arith)
-at b (suc m) n h t = go (cases_eq n m) (left (sound b m) (sound_below b m) t) (λ l. at b m n l (right (sound b m) (sound_below b m) t))
+at b (suc m) n h t = go (cases_eq n m) (left (row_passes b m) (sound_below b m) t) (λ l. at b m n l (right (row_passes b m) (sound_below b m) t))
   where
-    go : (n ≡ m) ⊎ (n ≡ m → ⊥) → T (sound b m) → (n < m → T (sound b n)) → T (sound b n)
+    go : (n ≡ m) ⊎ (n ≡ m → ⊥) → T (row_passes b m) → (n < m → T (row_passes b n)) → T (row_passes b n)
     go (inl e) this those = rw e this
     go (inr e) this those = those (omega arith)
 
 tested : T (sound_below path_budget 1024)
-unfolding sound_below within rows
+unfolding sound_below ends_within rows
 tested = tt
 
 pub rows_end : RowsEnd path_budget
 rows_end n h = at path_budget 1024 n h tested
 
 -- a row is one row of the budget
-some : (r touch n : ℕ) → T (within r touch n) → 0 < r
-unfolding within
+some : (r touch n : ℕ) → T (ends_within r touch n) → 0 < r
+unfolding ends_within
 some zero touch n h = absurd h
 some (suc r) touch n h = omega arith
 
@@ -46,10 +46,10 @@ true_test true h = refl
 true_test false h = absurd h
 
 -- its accesses are within the budget
-enough : (r touch n : ℕ) → T (within r touch n) → accesses (row_at n).transfer ≤ touch
-unfolding within
+enough : (r touch n : ℕ) → T (ends_within r touch n) → access_count (row_at n).transfer ≤ touch
+unfolding ends_within
 enough zero touch n h = absurd h
-enough (suc r) touch n h = leb-true _ _ (true_test _ (left (leb (accesses (row_at n).transfer) touch) _ h))
+enough (suc r) touch n h = leb-true _ _ (true_test _ (left (leb (access_count (row_at n).transfer) touch) _ h))
 
 apart : (e b : Bool) → T (elim e [ true ↦ true | false ↦ b ]) → e ≡ false → T b
 apart true b h e = absurd (true≢false e)
@@ -62,19 +62,19 @@ each p (m ∷ ms) n (zero, l, e) h = subst (λ k. T (p k)) e (left (p m) (all p 
 each p (m ∷ ms) n (suc k, l, e) h = each p ms n (k, omega arith, e) (right (p m) (all p ms) h)
 
 -- and what it leaves of the budget is enough for each row that can follow
-on : (r touch n m : ℕ) → T (within r touch n) → ends (row_at n).sequencing ≡ false
+on : (r touch n m : ℕ) → T (ends_within r touch n) → ends_path (row_at n).sequencing ≡ false
     → Contains (successors (row_at n).sequencing (row_at n).amic) m
-    → (k : ℕ) × (r ≡ k + 1) × T (within k (touch - accesses (row_at n).transfer) m)
-unfolding within
+    → (k : ℕ) × (r ≡ k + 1) × T (ends_within k (touch - access_count (row_at n).transfer) m)
+unfolding ends_within
 on zero touch n m h e c = absurd h
 on (suc k) touch n m h e c = (
   k,
   omega arith,
-  each (within k (touch - accesses (row_at n).transfer)) (successors (row_at n).sequencing (row_at n).amic) m c
-      (apart (ends (row_at n).sequencing) _ (right (leb (accesses (row_at n).transfer) touch) _ h) e),
+  each (ends_within k (touch - access_count (row_at n).transfer)) (successors (row_at n).sequencing (row_at n).amic) m c
+      (apart (ends_path (row_at n).sequencing) _ (right (leb (access_count (row_at n).transfer) touch) _ h) e),
 )
 
-passes : (b : Budget) → RowsEnd b → (n : ℕ) → n < 1024 → T (within b.rows b.accesses n)
+passes : (b : Budget) → RowsEnd b → (n : ℕ) → n < 1024 → T (ends_within b.rows b.accesses n)
 passes b h n l = right (all (λ k. ltb k 1024) (successors (row_at n).sequencing (row_at n).amic)) _ (h n l)
 
 -- a branch with a link that is taken: init, bcond, bltzal, bltz, branch-e, branch, ifetch-e

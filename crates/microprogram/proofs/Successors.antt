@@ -2,7 +2,7 @@
 use Rattle.std.proofs.Common.{◌≡◌, ℕ, zero, suc, ◌+◌, ◌*◌, ◌/◌, ◌%◌, ◌<◌, Bool, true, false, refl, sym, suc-mul, Contains, arith}
 use Rattle.machine.specs.Interrupt.{interrupting, resetting}
 use Rattle.machine.specs.Operation.{one_if}
-use Rattle.machine.specs.Word.{bit, function, opcode, system}
+use Rattle.machine.specs.Word.{bit, function, opcode, system_number}
 use Rattle.rows.specs.declared.row.Sequencing.TheVariants as s
 use Rattle.microprogram.specs.Bounds.{RowsListed, spread}
 
@@ -23,7 +23,7 @@ pub rows_listed : RowsListed
 rows_listed s.Next amic g res z lines flag = (0, omega arith, refl)
 rows_listed s.Decod amic g res z lines flag = among 256 4 64 (opcode g.ir) (omega arith) _ refl
 rows_listed s.Spec amic g res z lines flag = among 512 4 64 (function g.ir) (omega arith) _ refl
-rows_listed s.Movc0 amic g res z lines flag = among (amic / 16 * 16) 1 16 (system g.ir) (omega arith) _ (omega arith)
+rows_listed s.Movc0 amic g res z lines flag = among (amic / 16 * 16) 1 16 (system_number g.ir) (omega arith) _ (omega arith)
 rows_listed s.Rie amic g res z lines flag =
     among (amic / 8 * 8) 1 8 (one_if (resetting lines) * 4 + one_if (interrupting g.sr lines) * 2 + one_if flag)
     (omega (arith, one (resetting lines), one (interrupting g.sr lines), one flag)) _ (omega arith)

@@ -6,7 +6,7 @@ use Rattle.rows.specs.declared.row.Sequencing.{Sequencing}
 use Rattle.rows.specs.declared.row.Sequencing.TheVariants as s
 use Rattle.rows.specs.declared.row.Transfer.{Transfer}
 use Rattle.rows.specs.declared.row.Transfer.TheVariants as m
-use Rattle.microprogram.specs.Cycle.{ends, following}
+use Rattle.microprogram.specs.Cycle.{ends_path, next_row}
 use Rattle.microprogram.specs.declared.bounds.Budget.{Budget}
 
 -- the numbers from, from + by, .. , so many of them
@@ -30,36 +30,32 @@ successors s.Nul amic = spread (amic / 2 * 2) 1 2
 successors s.Sinul amic = spread (amic / 4 * 4) 1 4
 
 -- how many accesses a row makes
-abbrev pub accesses : Transfer → ℕ
-accesses m.Nop = 0
-accesses _ = 1
+abbrev pub access_count : Transfer → ℕ
+access_count m.Nop = 0
+access_count _ = 1
 
 abbrev pub all : (ℕ → Bool) → List ℕ → Bool
 all p [] = true
 all p (n ∷ ns) = p n && all p ns
 
 -- every way on from a row comes to the end of its path within so many rows, itself counted, and so many accesses
-unfoldable pub within : ℕ → ℕ → ℕ → Bool
-within zero touch n = false
-within (suc rows) touch n =
-    nat_le (accesses (row_at n).transfer) touch
-    && elim (ends (row_at n).sequencing) [
+unfoldable pub ends_within : ℕ → ℕ → ℕ → Bool
+ends_within zero touch n = false
+ends_within (suc rows) touch n =
+    nat_le (access_count (row_at n).transfer) touch
+    && elim (ends_path (row_at n).sequencing) [
       | true ↦ true
-      | false ↦ all (within rows (touch - accesses (row_at n).transfer)) (successors (row_at n).sequencing (row_at n).amic)
+      | false ↦ all (ends_within rows (touch - access_count (row_at n).transfer)) (successors (row_at n).sequencing (row_at n).amic)
     ]
 
--- the same of a budget
-abbrev pub ending : Budget → ℕ → Bool
-ending b n = within b.rows b.accesses n
-
 -- the test of one row: its successors are rows, and every way on from it ends within the budget
-abbrev pub sound : Budget → ℕ → Bool
-sound b n = all (λ k. nat_lt k 1024) (successors (row_at n).sequencing (row_at n).amic) && ending b n
+abbrev pub row_passes : Budget → ℕ → Bool
+row_passes b n = all (λ k. nat_lt k 1024) (successors (row_at n).sequencing (row_at n).amic) && ends_within b.rows b.accesses n
 
 -- from every row at most so many rows, itself counted, lead to one that ends a path; at most so many of them access memory;
 -- and every row that is listed as its successor is one of the 1,024
 abbrev pub RowsEnd : Budget → Type 0
-RowsEnd b = (n : ℕ) → n < 1024 → T (sound b n)
+RowsEnd b = (n : ℕ) → n < 1024 → T (row_passes b n)
 
 -- what the test gives
 abbrev pub path_budget : Budget
@@ -74,4 +70,4 @@ pub record IsLeast (b : Budget) : Type 0 where
 abbrev pub RowsListed : Type 0
 RowsListed =
     (q : Sequencing) (amic : ℕ) (g : Regs) (res : ℕ) (zero? : Bool) (lines : ℕ) (flag : Bool)
-    → Contains (successors q amic) (following q amic g res zero? lines flag)
+    → Contains (successors q amic) (next_row q amic g res zero? lines flag)

@@ -1,16 +1,16 @@
 -- One cycle that is not frozen. Assumes nothing.
-use Rattle.std.specs.Prelude.{ℕ, ◌+◌, ◌*◌, ◌/◌, ◌%◌, ◌^◌, Bool, true, false, cond, not, ◌&&◌, ◌||◌, List, replicate, is_some, Some, None, Option}
+use Rattle.std.specs.Prelude.{ℕ, ◌+◌, ◌*◌, ◌/◌, ◌%◌, ◌^◌, Bool, true, false, cond, not, ◌&&◌, ◌||◌, List, is_some, Some, None, Option}
 use Rattle.bus.specs.Request.{read_of, write_of}
 use Rattle.bus.specs.declared.request.Answer.{Answer}
 use Rattle.bus.specs.declared.request.Answer.TheVariants.{BusError, Done}
 use Rattle.bus.specs.declared.request.Request.{Request}
 use Rattle.bus.specs.declared.request.Width.TheVariants.{Word, Half, Byte}
-use Rattle.machine.specs.Address.{barred, misplaced, user}
-use Rattle.machine.specs.Interrupt.{cause, caused, causes, code_of, entered, interrupting, resetting, restored}
-use Rattle.machine.specs.Ledger.{blank, noted}
-use Rattle.machine.specs.Operation.{one_if, operated}
-use Rattle.machine.specs.Registers.{Regs, held, put, reg, with_ad, with_bar, with_cr, with_epc, with_hi, with_ir, with_lo, with_pc, with_sr}
-use Rattle.machine.specs.Word.{bit, distance, extended, function, opcode, rd, rs, rt, shift, system, target}
+use Rattle.machine.specs.Address.{barred, misplaced, user_mode}
+use Rattle.machine.specs.Interrupt.{code_of, cr_code, cr_on_entry, cr_with_lines, interrupting, resetting, sr_on_entry, sr_on_return}
+use Rattle.machine.specs.Ledger.{blank_ledger, with_entry}
+use Rattle.machine.specs.Operation.{box_output, one_if}
+use Rattle.machine.specs.Registers.{Regs, reg, regs_of, with_ad, with_bar, with_cr, with_epc, with_hi, with_ir, with_lo, with_pc, with_register, with_sr, zero_regs}
+use Rattle.machine.specs.Word.{bit, branch_offset, function, jump_index, opcode, rd, rs, rt, shift_amount, signed_immediate, system_number}
 use Rattle.machine.specs.declared.fault.Fault.{Fault}
 use Rattle.machine.specs.declared.fault.Fault.TheVariants as f
 use Rattle.machine.specs.declared.ledger.Entry.{Entry}
@@ -40,7 +40,7 @@ operand_x lines dt g x.Lo = g.lo
 operand_x lines dt g x.Epc = g.epc
 operand_x lines dt g x.Bar = g.bar
 operand_x lines dt g x.Sr = g.sr
-operand_x lines dt g x.Cr = causes lines g.cr
+operand_x lines dt g x.Cr = cr_with_lines lines g.cr
 operand_x lines dt g x.Dt = dt
 operand_x lines dt g x.Pc4 = g.pc / 2 ^ 28 * 2 ^ 28
 operand_x lines dt g x.C0 = 0
@@ -49,10 +49,10 @@ operand_x lines dt g x.Ch = 0xFFFF
 
 -- operand Y
 abbrev pub operand_y : ℕ → Regs → OperandY → ℕ
-operand_y dt g y.I16 = extended g.ir
-operand_y dt g y.I18 = distance g.ir
-operand_y dt g y.Iu28 = target g.ir
-operand_y dt g y.Ish = shift g.ir
+operand_y dt g y.I16 = signed_immediate g.ir
+operand_y dt g y.I18 = branch_offset g.ir
+operand_y dt g y.Iu28 = jump_index g.ir
+operand_y dt g y.Ish = shift_amount g.ir
 operand_y dt g y.Dt = dt
 operand_y dt g y.Ad = g.ad
 operand_y dt g y.C0 = 0
@@ -63,133 +63,133 @@ operand_y dt g y.C24 = 24
 operand_y dt g y.Cx = 0x80000080
 
 -- the access that a row has in its field
-abbrev pub access : Regs → Transfer → ℕ → Option Request
-access g m.Nop res = None
-access g m.If res = Some (read_of g.pc)
-access g m.Ww res = Some (write_of Word g.ad res)
-access g m.Wh res = Some (write_of Half g.ad res)
-access g m.Wb res = Some (write_of Byte g.ad res)
-access g m.Lw res = Some (read_of g.ad)
+abbrev pub row_access : Regs → Transfer → ℕ → Option Request
+row_access g m.Nop res = None
+row_access g m.If res = Some (read_of g.pc)
+row_access g m.Ww res = Some (write_of Word g.ad res)
+row_access g m.Wh res = Some (write_of Half g.ad res)
+row_access g m.Wb res = Some (write_of Byte g.ad res)
+row_access g m.Lw res = Some (read_of g.ad)
 
 -- the request that is made of it: none where a flag was up before
-abbrev pub requested : Option Fault → Option Request → Option Request
-requested (Some c) q = None
-requested None q = q
+abbrev pub unless_flagged : Option Fault → Option Request → Option Request
+unless_flagged (Some c) q = None
+unless_flagged None q = q
 
-abbrev pub refused : Option Answer → Bool
-refused (Some BusError) = true
-refused _ = false
+abbrev pub is_bus_error : Option Answer → Bool
+is_bus_error (Some BusError) = true
+is_bus_error _ = false
 
-abbrev pub when : Bool → Fault → Option Fault
-when b c = cond b (Some c) None
+abbrev pub fault_if : Bool → Fault → Option Fault
+fault_if b c = cond b (Some c) None
 
 -- the fault that a row finds
-abbrev pub found : Detection → ℕ → ℕ → Bool → Option Answer → Option Fault
-found e.Nop sr res over a = None
-found e.Ri sr res over a = Some f.Ri
-found e.Ovf sr res over a = when over f.Ovf
-found e.Cpu sr res over a = when (user sr) f.Cpu
-found e.Sys sr res over a = Some f.Sys
-found e.Brk sr res over a = Some f.Brk
-found e.Ww sr res over a = when (misplaced 4 sr res) f.Ades
-found e.Wh sr res over a = when (misplaced 2 sr res) f.Ades
-found e.Wb sr res over a = when (barred sr res) f.Ades
-found e.Lw sr res over a = when (misplaced 4 sr res) f.Adel
-found e.Lh sr res over a = when (misplaced 2 sr res) f.Adel
-found e.Lb sr res over a = when (barred sr res) f.Adel
-found e.If sr res over a = when (misplaced 4 sr res) f.Adel
-found e.Ibe sr res over a = when (refused a) f.Ibe
-found e.Dbe sr res over a = when (refused a) f.Dbe
-found e.Clr sr res over a = None
+abbrev pub fault_found : Detection → ℕ → ℕ → Bool → Option Answer → Option Fault
+fault_found e.Nop sr res over a = None
+fault_found e.Ri sr res over a = Some f.Ri
+fault_found e.Ovf sr res over a = fault_if over f.Ovf
+fault_found e.Cpu sr res over a = fault_if (user_mode sr) f.Cpu
+fault_found e.Sys sr res over a = Some f.Sys
+fault_found e.Brk sr res over a = Some f.Brk
+fault_found e.Ww sr res over a = fault_if (misplaced 4 sr res) f.Ades
+fault_found e.Wh sr res over a = fault_if (misplaced 2 sr res) f.Ades
+fault_found e.Wb sr res over a = fault_if (barred sr res) f.Ades
+fault_found e.Lw sr res over a = fault_if (misplaced 4 sr res) f.Adel
+fault_found e.Lh sr res over a = fault_if (misplaced 2 sr res) f.Adel
+fault_found e.Lb sr res over a = fault_if (barred sr res) f.Adel
+fault_found e.If sr res over a = fault_if (misplaced 4 sr res) f.Adel
+fault_found e.Ibe sr res over a = fault_if (is_bus_error a) f.Ibe
+fault_found e.Dbe sr res over a = fault_if (is_bus_error a) f.Dbe
+fault_found e.Clr sr res over a = None
 
 -- the fault that is raised: only where none is up
-abbrev pub raised : Option Fault → Option Fault → Option Fault
-raised (Some c) new = None
-raised None new = new
+abbrev pub fault_raised : Option Fault → Option Fault → Option Fault
+fault_raised (Some c) new = None
+fault_raised None new = new
 
-abbrev pub clears : Detection → Bool
-clears e.Clr = true
-clears _ = false
+abbrev pub clears_flag : Detection → Bool
+clears_flag e.Clr = true
+clears_flag _ = false
 
 -- the flag afterwards
-abbrev pub flagged : Detection → Option Fault → Option Fault → Option Fault
-flagged d before new = cond (clears d) None (elim before [ Some c ↦ Some c | None ↦ new ])
+abbrev pub flag_after : Detection → Option Fault → Option Fault → Option Fault
+flag_after d before new = cond (clears_flag d) None (elim before [ Some c ↦ Some c | None ↦ new ])
 
 -- bus errors do not stop the cycle that meets them
-abbrev pub stopping : Option Fault → Bool
-stopping None = false
-stopping (Some f.Ibe) = false
-stopping (Some f.Dbe) = false
-stopping (Some _) = true
+abbrev pub stops_its_cycle : Option Fault → Bool
+stops_its_cycle None = false
+stops_its_cycle (Some f.Ibe) = false
+stops_its_cycle (Some f.Dbe) = false
+stops_its_cycle (Some _) = true
 
 -- whether AD, and whether a register that software sees, may be written: a row that clears is stopped by nothing
-abbrev pub opens_ad : Detection → Option Fault → Bool
-opens_ad d before = clears d || not (is_some before)
+abbrev pub may_write_ad : Detection → Option Fault → Bool
+may_write_ad d before = clears_flag d || not (is_some before)
 
-abbrev pub opens : Detection → Option Fault → Option Fault → Bool
-opens d before new = clears d || (not (is_some before) && not (stopping (raised before new)))
+abbrev pub may_write_visible : Detection → Option Fault → Option Fault → Bool
+may_write_visible d before new = clears_flag d || (not (is_some before) && not (stops_its_cycle (fault_raised before new)))
 
 -- the registers after a write of the result
-abbrev pub written : Destination → Option Fault → ℕ → Regs → Regs
-written r.Nop flag res g = g
-written r.Pc flag res g = with_pc res g
-written r.Ad flag res g = with_ad res g
-written r.Bar flag res g = with_bar res g
-written r.Lo flag res g = with_lo res g
-written r.Hi flag res g = with_hi res g
-written r.Epc flag res g = with_epc res g
-written r.Cr flag res g = with_cr res g
-written r.Sr flag res g = with_sr res g
-written r.Rt flag res g = put (rt g.ir) res g
-written r.Rd flag res g = put (rd g.ir) res g
-written r.R31 flag res g = put 31 res g
-written r.Erq flag res g = with_sr (entered g.sr) (with_cr (caused (code_of flag) g.cr) g)
-written r.Rfe flag res g = with_sr (restored g.sr) g
+abbrev pub regs_with_result : Destination → Option Fault → ℕ → Regs → Regs
+regs_with_result r.Nop flag res g = g
+regs_with_result r.Pc flag res g = with_pc res g
+regs_with_result r.Ad flag res g = with_ad res g
+regs_with_result r.Bar flag res g = with_bar res g
+regs_with_result r.Lo flag res g = with_lo res g
+regs_with_result r.Hi flag res g = with_hi res g
+regs_with_result r.Epc flag res g = with_epc res g
+regs_with_result r.Cr flag res g = with_cr res g
+regs_with_result r.Sr flag res g = with_sr res g
+regs_with_result r.Rt flag res g = with_register (rt g.ir) res g
+regs_with_result r.Rd flag res g = with_register (rd g.ir) res g
+regs_with_result r.R31 flag res g = with_register 31 res g
+regs_with_result r.Erq flag res g = with_sr (sr_on_entry g.sr) (with_cr (cr_on_entry (code_of flag) g.cr) g)
+regs_with_result r.Rfe flag res g = with_sr (sr_on_return g.sr) g
 
 -- whether the destination may be written: AD is stopped by less than the registers that software sees
-abbrev pub allowed : Destination → Detection → Option Fault → Option Fault → Bool
-allowed r.Ad d before new = opens_ad d before
-allowed _ d before new = opens d before new
+abbrev pub may_write : Destination → Detection → Option Fault → Option Fault → Bool
+may_write r.Ad d before new = may_write_ad d before
+may_write _ d before new = may_write_visible d before new
 
 -- the word that a finished access brings
-abbrev pub brought : Option Answer → ℕ → ℕ
-brought (Some (Done w)) old = w
-brought _ old = old
+abbrev pub word_brought : Option Answer → ℕ → ℕ
+word_brought (Some (Done w)) old = w
+word_brought _ old = old
 
 -- IR and DT after the access
-abbrev pub fetched : Transfer → Option Answer → ℕ → ℕ
-fetched m.If a old = brought a old
-fetched _ a old = old
+abbrev pub ir_after : Transfer → Option Answer → ℕ → ℕ
+ir_after m.If a old = word_brought a old
+ir_after _ a old = old
 
-abbrev pub loaded : Transfer → Option Answer → ℕ → ℕ
-loaded m.Lw a old = brought a old
-loaded _ a old = old
+abbrev pub dt_after : Transfer → Option Answer → ℕ → ℕ
+dt_after m.Lw a old = word_brought a old
+dt_after _ a old = old
 
 -- the row that follows; the choice at a boundary reads SR before this cycle's write and counts a flag raised in it
-abbrev pub following : Sequencing → ℕ → Regs → ℕ → Bool → ℕ → Bool → ℕ
-following s.Next amic g res zero lines flag = amic
-following s.Decod amic g res zero lines flag = 256 + opcode g.ir * 4
-following s.Spec amic g res zero lines flag = 512 + function g.ir * 4
-following s.Movc0 amic g res zero lines flag = amic / 16 * 16 + system g.ir
-following s.Rie amic g res zero lines flag =
+abbrev pub next_row : Sequencing → ℕ → Regs → ℕ → Bool → ℕ → Bool → ℕ
+next_row s.Next amic g res zero lines flag = amic
+next_row s.Decod amic g res zero lines flag = 256 + opcode g.ir * 4
+next_row s.Spec amic g res zero lines flag = 512 + function g.ir * 4
+next_row s.Movc0 amic g res zero lines flag = amic / 16 * 16 + system_number g.ir
+next_row s.Rie amic g res zero lines flag =
     amic / 8 * 8 + one_if (resetting lines) * 4 + one_if (interrupting g.sr lines) * 2 + one_if flag
-following s.Copro amic g res zero lines flag = amic / 4 * 4 + one_if (bit 25 g.ir) * 2 + one_if (bit 23 g.ir)
-following s.Bcond amic g res zero lines flag = amic / 4 * 4 + one_if (bit 20 g.ir) * 2 + one_if (bit 16 g.ir)
-following s.Ad10 amic g res zero lines flag = amic / 4 * 4 + g.ad % 4
-following s.Ad1 amic g res zero lines flag = amic / 2 * 2 + one_if (bit 1 g.ad)
-following s.Unsi amic g res zero lines flag = amic / 2 * 2 + one_if (bit 28 g.ir)
-following s.Nul amic g res zero lines flag = amic / 2 * 2 + one_if zero
-following s.Sinul amic g res zero lines flag = amic / 4 * 4 + one_if (bit 31 res) * 2 + one_if zero
+next_row s.Copro amic g res zero lines flag = amic / 4 * 4 + one_if (bit 25 g.ir) * 2 + one_if (bit 23 g.ir)
+next_row s.Bcond amic g res zero lines flag = amic / 4 * 4 + one_if (bit 20 g.ir) * 2 + one_if (bit 16 g.ir)
+next_row s.Ad10 amic g res zero lines flag = amic / 4 * 4 + g.ad % 4
+next_row s.Ad1 amic g res zero lines flag = amic / 2 * 2 + one_if (bit 1 g.ad)
+next_row s.Unsi amic g res zero lines flag = amic / 2 * 2 + one_if (bit 28 g.ir)
+next_row s.Nul amic g res zero lines flag = amic / 2 * 2 + one_if zero
+next_row s.Sinul amic g res zero lines flag = amic / 4 * 4 + one_if (bit 31 res) * 2 + one_if zero
 
 -- a path ends with a row of this sequencing
-abbrev pub ends : Sequencing → Bool
-ends s.Rie = true
-ends _ = false
+abbrev pub ends_path : Sequencing → Bool
+ends_path s.Rie = true
+ends_path _ = false
 
 -- the rows epc1 and epc2 save PC: they write EPC from it
-abbrev pub saves : Destination → OperandX → Bool
-saves r.Epc x.Pc = true
-saves _ _ = false
+abbrev pub saves_pc : Destination → OperandX → Bool
+saves_pc r.Epc x.Pc = true
+saves_pc _ _ = false
 
 -- the processor without its memory: registers, flag, row, the lines at the last boundary, ledger
 pub record State : Type 0 where
@@ -197,50 +197,50 @@ pub record State : Type 0 where
   pub dt : ℕ
   pub flag : Option Fault
   pub row : ℕ
-  pub lines : ℕ
+  pub sampled : ℕ
   pub ledger : List Entry
 
-abbrev pub seen : Chip → State
-seen c =
+abbrev pub chip_state : Chip → State
+chip_state c =
     record {
-      regs = held c.registers;
+      regs = regs_of c.registers;
       dt = c.registers.dt;
       flag = c.registers.flag;
       row = c.row;
-      lines = c.lines;
+      sampled = c.sampled;
       ledger = c.ledger.entries;
     }
 
 -- what the operation box gives in a row
-abbrev pub worked : Row → State → ℕ × Bool × Bool
-worked w c = operated w.operation (operand_x c.lines c.dt c.regs w.x) (operand_y c.dt c.regs w.y)
+abbrev pub row_output : Row → State → ℕ × Bool × Bool
+row_output w c = box_output w.operation (operand_x c.sampled c.dt c.regs w.x) (operand_y c.dt c.regs w.y)
 
 -- the request that a state makes in a row
-abbrev pub asked : Row → State → Option Request
-asked w c = requested c.flag (access c.regs w.transfer (worked w c).0)
+abbrev pub request_of : Row → State → Option Request
+request_of w c = unless_flagged c.flag (row_access c.regs w.transfer (row_output w c).0)
 
 -- the state after a row with that work, under the lines that stand now and the answer to its request
-abbrev pub advanced : Row → ℕ → ℕ × Bool × Bool → Option Answer → State → State
-advanced w lines k a c =
-    let new : Option Fault = found w.detection c.regs.sr k.0 k.1 a in
-    let flag : Option Fault = flagged w.detection c.flag new in
+abbrev pub state_after : Row → ℕ → ℕ × Bool × Bool → Option Answer → State → State
+state_after w lines k a c =
+    let new : Option Fault = fault_found w.detection c.regs.sr k.0 k.1 a in
+    let flag : Option Fault = flag_after w.detection c.flag new in
     record {
-      regs = with_ir (fetched w.transfer a c.regs.ir) (cond (allowed w.destination w.detection c.flag new) (written w.destination c.flag k.0 c.regs) c.regs);
-      dt = loaded w.transfer a c.dt;
+      regs = with_ir (ir_after w.transfer a c.regs.ir) (cond (may_write w.destination w.detection c.flag new) (regs_with_result w.destination c.flag k.0 c.regs) c.regs);
+      dt = dt_after w.transfer a c.dt;
       flag = flag;
-      row = following w.sequencing w.amic c.regs k.0 k.2 lines (is_some flag);
-      lines = cond (ends w.sequencing) lines c.lines;
-      ledger = cond (saves w.destination w.x && opens w.detection c.flag new) (noted (cause c.regs.cr) k.0 c.ledger) c.ledger;
+      row = next_row w.sequencing w.amic c.regs k.0 k.2 lines (is_some flag);
+      sampled = cond (ends_path w.sequencing) lines c.sampled;
+      ledger = cond (saves_pc w.destination w.x && may_write_visible w.detection c.flag new) (with_entry (cr_code c.regs.cr) k.0 c.ledger) c.ledger;
     }
 
 -- power-up: everything zero, no flag, row 0
-abbrev pub powered : State
-powered =
+abbrev pub power_up : State
+power_up =
     record {
-      regs = record { general = replicate 32 0; pc = 0; hi = 0; lo = 0; sr = 0; cr = 0; epc = 0; bar = 0; ad = 0; ir = 0 };
+      regs = zero_regs;
       dt = 0;
       flag = None;
       row = 0;
-      lines = 0;
-      ledger = replicate 16 blank;
+      sampled = 0;
+      ledger = blank_ledger;
     }

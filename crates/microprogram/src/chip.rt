@@ -9,6 +9,6 @@ pub struct Chip {
     /// The address of the row at hand.
     pub row: u16,
     /// The lines as they stood at the last boundary.
-    pub lines: u8,
+    pub sampled: u8,
     pub ledger: Ledger,
 }

@@ -1,8 +1,8 @@
 //! One cycle, as functions of values.
 
 ghost use Rattle.std.specs.Prelude.{◌≡◌, ◌<◌};
-ghost use Rattle.machine.specs.Registers.{held, with_register};
-ghost use Rattle.microprogram.specs.Cycle.{access, advanced, brought, powered, requested, saves, seen, worked, written};
+ghost use Rattle.machine.specs.Registers.{general_with, regs_of};
+ghost use Rattle.microprogram.specs.Cycle.{chip_state, power_up, regs_with_result, row_access, row_output, saves_pc, state_after, unless_flagged, word_brought};
 
 use super::chip::Chip;
 use super::faults::{Check, Evidence};
@@ -16,15 +16,15 @@ use machine::word::Field;
 use rows::row::{Destination, OperandX, Row, Transfer};
 
 /// The rows epc1 and epc2 save PC: they write EPC from it.
-fn saves(destination: Destination, x: OperandX) -> bool
-    ensures { result ≡ saves destination x }
+fn saves_pc(destination: Destination, x: OperandX) -> bool
+    ensures { result ≡ saves_pc destination x }
 {
     matches!((destination, x), (Destination::Epc, OperandX::Pc))
 }
 
 /// The word that a finished access brings, or else the old one.
-fn brought(answer: Option<Answer>, old: u32) -> u32
-    ensures { result ≡ brought answer old }
+fn word_brought(answer: Option<Answer>, old: u32) -> u32
+    ensures { result ≡ word_brought answer old }
 {
     match answer {
         Some(Answer::Done(word)) => word,
@@ -33,9 +33,9 @@ fn brought(answer: Option<Answer>, old: u32) -> u32
 }
 
 /// Writes a general register; register 0 stays.
-fn put(general: &mut [u32; 32], n: usize, value: u32)
+fn write_general(general: &mut [u32; 32], n: usize, value: u32)
     requires { n < 32 }
-    ensures { general.new ≡ with_register n value general.old }
+    ensures { general.new ≡ general_with n value general.old }
 {
     if n != 0 {
         general[n] = value;
@@ -44,7 +44,7 @@ fn put(general: &mut [u32; 32], n: usize, value: u32)
 
 /// Writes the result to its destination.
 fn write(registers: &mut Registers, destination: Destination, res: u32)
-    ensures regs { held registers.new ≡ written destination registers.old.flag res (held registers.old) }
+    ensures regs { regs_of registers.new ≡ regs_with_result destination registers.old.flag res (regs_of registers.old) }
     ensures dt { registers.new.dt ≡ registers.old.dt }
     ensures flag { registers.new.flag ≡ registers.old.flag }
 {
@@ -58,17 +58,17 @@ fn write(registers: &mut Registers, destination: Destination, res: u32)
         Destination::Epc => registers.epc = res,
         Destination::Cr => registers.cr = res,
         Destination::Sr => registers.sr = res,
-        Destination::Rt => put(
+        Destination::Rt => write_general(
             &mut registers.general,
             Field::Rt.register(registers.ir),
             res,
         ),
-        Destination::Rd => put(
+        Destination::Rd => write_general(
             &mut registers.general,
             Field::Rd.register(registers.ir),
             res,
         ),
-        Destination::R31 => put(&mut registers.general, 31, res),
+        Destination::R31 => write_general(&mut registers.general, 31, res),
         Destination::Erq => {
             registers.cr = cr_on_entry(registers.flag, registers.cr);
             registers.sr = sr_on_entry(registers.sr);
@@ -80,7 +80,7 @@ fn write(registers: &mut Registers, destination: Destination, res: u32)
 impl Chip {
     /// Power-up: everything zero, no flag, row 0.
     pub fn new() -> Chip
-        ensures { seen result ≡ powered }
+        ensures { chip_state result ≡ power_up }
     {
         // written out: a struct that keeps a fact, as register 0 is zero, derives no `Default`
         let registers = Registers {
@@ -100,14 +100,14 @@ impl Chip {
         Chip {
             registers,
             row: 0,
-            lines: 0,
+            sampled: 0,
             ledger: Ledger::default(),
         }
     }
 
     /// What the operation box gives in a row: RES, signed overflow, and whether RES is zero.
     pub fn work(&self, row: Row) -> (u32, bool, bool)
-        ensures { result ≡ worked row (seen self.now) }
+        ensures { result ≡ row_output row (chip_state self.now) }
     {
         let x = self.operand_x(row.x);
         let y = self.operand_y(row.y);
@@ -116,7 +116,7 @@ impl Chip {
 
     /// The request that a row makes: none where a flag is up.
     pub fn request(&self, transfer: Transfer, res: u32) -> Option<Request>
-        ensures { result ≡ requested self.now.registers.flag (access (held self.now.registers) transfer res) }
+        ensures { result ≡ unless_flagged self.now.registers.flag (row_access (regs_of self.now.registers) transfer res) }
     {
         if self.registers.flag.is_some() {
             return None;
@@ -134,7 +134,7 @@ impl Chip {
 
     /// The end of a cycle that is not frozen: what its row does with the work and with the answer to its request.
     pub fn advance(&mut self, row: Row, lines: u8, work: (u32, bool, bool), answer: Option<Answer>)
-        ensures { seen self.new ≡ advanced row lines work answer (seen self.old) }
+        ensures { chip_state self.new ≡ state_after row lines work answer (chip_state self.old) }
     {
         let (res, overflow, zero) = work;
         let evidence = Evidence {
@@ -146,24 +146,24 @@ impl Chip {
         let check = Check {
             detection: row.detection,
             before: self.registers.flag,
-            new: evidence.found_by(row.detection),
+            new: evidence.fault_found(row.detection),
         };
-        let flag = check.flag();
-        self.row = self.following(&row, res, zero, lines, flag.is_some());
-        if saves(row.destination, row.x) && check.opens() {
+        let flag = check.flag_after();
+        self.row = self.next_row(&row, res, zero, lines, flag.is_some());
+        if saves_pc(row.destination, row.x) && check.may_write_visible() {
             self.ledger.note(cr_code(self.registers.cr), res);
         }
-        if check.allows(row.destination) {
+        if check.may_write(row.destination) {
             write(&mut self.registers, row.destination, res);
         }
         match row.transfer {
-            Transfer::If => self.registers.ir = brought(answer, self.registers.ir),
-            Transfer::Lw => self.registers.dt = brought(answer, self.registers.dt),
+            Transfer::If => self.registers.ir = word_brought(answer, self.registers.ir),
+            Transfer::Lw => self.registers.dt = word_brought(answer, self.registers.dt),
             Transfer::Nop | Transfer::Ww | Transfer::Wh | Transfer::Wb => {}
         }
         self.registers.flag = flag;
-        if sequencing::ends(row.sequencing) {
-            self.lines = lines;
+        if sequencing::ends_path(row.sequencing) {
+            self.sampled = lines;
         }
     }
 }

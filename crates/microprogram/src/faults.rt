@@ -1,7 +1,7 @@
 //! Which fault a row finds, and what a fault stops.
 
 ghost use Rattle.std.specs.Prelude.{◌≡◌};
-ghost use Rattle.microprogram.specs.Cycle.{allowed, clears, flagged, found, opens, refused, stopping};
+ghost use Rattle.microprogram.specs.Cycle.{clears_flag, fault_found, flag_after, is_bus_error, may_write, may_write_visible, stops_its_cycle};
 
 use bus::request::Answer;
 use machine::address::{is_barred, is_misplaced, is_user_mode};
@@ -18,15 +18,15 @@ pub(crate) struct Evidence {
 }
 
 impl Evidence {
-    fn is_refused(self) -> bool
-        ensures { result ≡ refused self.answer }
+    fn is_bus_error(self) -> bool
+        ensures { result ≡ is_bus_error self.answer }
     {
         self.answer == Some(Answer::BusError)
     }
 
     /// The fault that a row with this detection finds.
-    pub(crate) fn found_by(self, detection: Detection) -> Option<Fault>
-        ensures { result ≡ found detection self.sr self.res self.overflow self.answer }
+    pub(crate) fn fault_found(self, detection: Detection) -> Option<Fault>
+        ensures { result ≡ fault_found detection self.sr self.res self.overflow self.answer }
     {
         match detection {
             Detection::Nop | Detection::Clr => None,
@@ -43,8 +43,8 @@ impl Evidence {
             ),
             Detection::Lh => is_misplaced(2, self.sr, self.res).then_some(Fault::Adel),
             Detection::Lb => is_barred(self.sr, self.res).then_some(Fault::Adel),
-            Detection::Ibe => self.is_refused().then_some(Fault::Ibe),
-            Detection::Dbe => self.is_refused().then_some(Fault::Dbe),
+            Detection::Ibe => self.is_bus_error().then_some(Fault::Ibe),
+            Detection::Dbe => self.is_bus_error().then_some(Fault::Dbe),
         }
     }
 }
@@ -59,17 +59,17 @@ pub(crate) struct Check {
 
 impl Check {
     /// Whether the row clears the flag; such a row is stopped by nothing.
-    fn clears(self) -> bool
-        ensures { result ≡ clears self.detection }
+    fn clears_flag(self) -> bool
+        ensures { result ≡ clears_flag self.detection }
     {
         matches!(self.detection, Detection::Clr)
     }
 
     /// The flag after the row; one that is up stays, and no second one is raised.
-    pub(crate) fn flag(self) -> Option<Fault>
-        ensures { result ≡ flagged self.detection self.before self.new }
+    pub(crate) fn flag_after(self) -> Option<Fault>
+        ensures { result ≡ flag_after self.detection self.before self.new }
     {
-        if self.clears() {
+        if self.clears_flag() {
             None
         } else {
             self.before.or(self.new)
@@ -77,26 +77,26 @@ impl Check {
     }
 
     /// Whether the fault that is found stops the cycle; bus errors do not stop the one that meets them.
-    fn stops(self) -> bool
-        ensures { result ≡ stopping self.new }
+    fn stops_its_cycle(self) -> bool
+        ensures { result ≡ stops_its_cycle self.new }
     {
         !matches!(self.new, None | Some(Fault::Ibe | Fault::Dbe))
     }
 
     /// Whether the registers that software sees may be written.
-    pub(crate) fn opens(self) -> bool
-        ensures { result ≡ opens self.detection self.before self.new }
+    pub(crate) fn may_write_visible(self) -> bool
+        ensures { result ≡ may_write_visible self.detection self.before self.new }
     {
-        self.clears() || self.before.is_none() && !self.stops()
+        self.clears_flag() || self.before.is_none() && !self.stops_its_cycle()
     }
 
     /// Whether the destination may be written: a fault of this very cycle does not stop AD.
-    pub(crate) fn allows(self, destination: Destination) -> bool
-        ensures { result ≡ allowed destination self.detection self.before self.new }
+    pub(crate) fn may_write(self, destination: Destination) -> bool
+        ensures { result ≡ may_write destination self.detection self.before self.new }
     {
         match destination {
-            Destination::Ad => self.clears() || self.before.is_none(),
-            _ => self.opens(),
+            Destination::Ad => self.clears_flag() || self.before.is_none(),
+            _ => self.may_write_visible(),
         }
     }
 }

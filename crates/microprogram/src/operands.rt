@@ -1,7 +1,7 @@
 //! The operands of the operation box.
 
 ghost use Rattle.std.specs.Prelude.{◌≡◌};
-ghost use Rattle.machine.specs.Registers.{held};
+ghost use Rattle.machine.specs.Registers.{regs_of};
 ghost use Rattle.microprogram.specs.Cycle.{operand_x, operand_y};
 
 use super::chip::Chip;
@@ -12,7 +12,7 @@ use rows::row::{OperandX, OperandY};
 impl Chip {
     /// Operand X; CR has the lines as they stood at the last boundary.
     pub(crate) fn operand_x(&self, x: OperandX) -> u32
-        ensures { result ≡ operand_x self.now.lines self.now.registers.dt (held self.now.registers) x }
+        ensures { result ≡ operand_x self.now.sampled self.now.registers.dt (regs_of self.now.registers) x }
     {
         let registers = &self.registers;
         match x {
@@ -25,7 +25,7 @@ impl Chip {
             OperandX::Epc => registers.epc,
             OperandX::Bar => registers.bar,
             OperandX::Sr => registers.sr,
-            OperandX::Cr => read_cr(self.lines, registers.cr),
+            OperandX::Cr => read_cr(self.sampled, registers.cr),
             OperandX::Dt => registers.dt,
             OperandX::Pc4 => registers.pc / 0x1000_0000 * 0x1000_0000,
             OperandX::C0 => 0,
@@ -36,7 +36,7 @@ impl Chip {
 
     /// Operand Y.
     pub(crate) fn operand_y(&self, y: OperandY) -> u32
-        ensures { result ≡ operand_y self.now.registers.dt (held self.now.registers) y }
+        ensures { result ≡ operand_y self.now.registers.dt (regs_of self.now.registers) y }
     {
         let registers = &self.registers;
         match y {

@@ -3,9 +3,9 @@
 ghost use Rattle.std.specs.Prelude.{◌≡◌, ◌+◌, ◌*◌, ◌%◌};
 ghost use Rattle.machine.specs.Interrupt.{interrupting, resetting};
 ghost use Rattle.machine.specs.Operation.{one_if};
-ghost use Rattle.machine.specs.Registers.{held};
+ghost use Rattle.machine.specs.Registers.{regs_of};
 ghost use Rattle.machine.specs.Word.{bit};
-ghost use Rattle.microprogram.specs.Cycle.{ends, following};
+ghost use Rattle.microprogram.specs.Cycle.{ends_path, next_row};
 
 use super::chip::Chip;
 use machine::interrupt::{is_interrupting, is_resetting};
@@ -20,14 +20,14 @@ fn bit(n: u32, word: u32) -> u16
 }
 
 /// Whether a path ends with a row of this sequencing.
-pub fn ends(sequencing: Sequencing) -> bool
-    ensures { result ≡ ends sequencing }
+pub fn ends_path(sequencing: Sequencing) -> bool
+    ensures { result ≡ ends_path sequencing }
 {
     matches!(sequencing, Sequencing::Rie)
 }
 
 /// What a boundary adds to AMIC: reset, interrupt, flag.
-fn chosen(sr: u32, lines: u8, flag: bool) -> u16
+fn boundary_choice(sr: u32, lines: u8, flag: bool) -> u16
     ensures { result ≡ one_if (resetting lines) * 4 + one_if (interrupting sr lines) * 2 + one_if flag }
 {
     u16::from(is_resetting(lines)) * 4 + u16::from(is_interrupting(sr, lines)) * 2 + u16::from(flag)
@@ -35,8 +35,8 @@ fn chosen(sr: u32, lines: u8, flag: bool) -> u16
 
 impl Chip {
     /// The address of the row that follows.
-    pub(crate) fn following(&self, row: &Row, res: u32, zero: bool, lines: u8, flag: bool) -> u16
-        ensures { result ≡ following row.now.sequencing row.now.amic (held self.now.registers) res zero lines flag }
+    pub(crate) fn next_row(&self, row: &Row, res: u32, zero: bool, lines: u8, flag: bool) -> u16
+        ensures { result ≡ next_row row.now.sequencing row.now.amic (regs_of self.now.registers) res zero lines flag }
     {
         let (ir, ad, amic) = (self.registers.ir, self.registers.ad, row.amic);
         match row.sequencing {
@@ -44,7 +44,7 @@ impl Chip {
             Sequencing::Decod => 256 + opcode(ir) * 4,
             Sequencing::Spec => 512 + function(ir) * 4,
             Sequencing::Movc0 => amic / 16 * 16 + system_number(ir),
-            Sequencing::Rie => amic / 8 * 8 + chosen(self.registers.sr, lines, flag),
+            Sequencing::Rie => amic / 8 * 8 + boundary_choice(self.registers.sr, lines, flag),
             Sequencing::Copro => amic / 4 * 4 + bit(25, ir) * 2 + bit(23, ir),
             Sequencing::Bcond => amic / 4 * 4 + bit(20, ir) * 2 + bit(16, ir),
             Sequencing::Ad10 => amic / 4 * 4 + (ad % 4) as u16,

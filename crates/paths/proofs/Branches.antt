@@ -2,9 +2,9 @@
 use Rattle.std.proofs.Common.{◌≡◌, ℕ, ◌+◌, ◌-◌, ◌*◌, ◌/◌, ◌%◌, ◌^◌, ◌<◌, Bool, true, false, not, ◌||◌, eqb, ltb, leb, [], ◌∷◌, pos, None, sym, refl, ap, ◌∙◌, arith}
 use lib.Signed.{le_z, lt_z}
 use Rattle.std.proofs.lemmas.Bool.Decides.{nat_tests}
-use Rattle.machine.specs.Operation.{one_if, signed}
-use Rattle.machine.specs.Registers.{Regs, put, reg, with_ad}
-use Rattle.machine.specs.Word.{bit, distance, opcode, rs, rt}
+use Rattle.machine.specs.Operation.{integer_of, one_if}
+use Rattle.machine.specs.Registers.{Regs, reg, with_ad, with_register}
+use Rattle.machine.specs.Word.{bit, branch_offset, opcode, rs, rt}
 use Rattle.machine.specs.Words.{WordsStayWords}
 use Rattle.machine.specs.declared.operation.Operation.TheVariants.{Dif, Sum}
 use Rattle.rows.specs.Rows.{row_at, rows}
@@ -15,10 +15,10 @@ use Rattle.rows.specs.declared.row.OperandY.TheVariants as y
 use Rattle.rows.specs.declared.row.Row.{Row}
 use Rattle.rows.specs.declared.row.Sequencing.TheVariants as s
 use Rattle.rows.specs.declared.row.Transfer.TheVariants as m
-use Rattle.book.specs.Book.{Book, Refusals, branches, done, fetches, linked, risen}
+use Rattle.book.specs.Book.{Book, Refusals, after_fetch, branch_if, effect_of, pc_risen, with_link}
 use Rattle.book.specs.Fit.{Fit}
 use Rattle.book.specs.Instruction.{Instruction}
-use Rattle.paths.specs.Path.{stand}
+use Rattle.paths.specs.Path.{world_at}
 use Rattle.paths.proofs.Jumps.{branch, lands}
 use Rattle.paths.proofs.Walk.{Rows, amid, ending, fetching, plus_nothing, row, split, walk, init, fetch, below, Reaches}
 
@@ -53,16 +53,16 @@ low_above : (v : ℕ) → ltb v (2 ^ 31) ≡ true → ltb 0 v ≡ not (sign v ||
 low_above v h = grind (arith, nat_tests)
 
 -- each test of a branch, in those two
-below_is : (v : ℕ) → v < 2 ^ 32 → lt_z (signed v) (pos 0) ≡ sign v
+below_is : (v : ℕ) → v < 2 ^ 32 → lt_z (integer_of v) (pos 0) ≡ sign v
 below_is v h = split (ltb v (2 ^ 31)) (λ t. rw t (low_below v t)) (λ t. rw t (high_sign v h t))
 
-not_below_is : (v : ℕ) → v < 2 ^ 32 → le_z (pos 0) (signed v) ≡ not (sign v)
+not_below_is : (v : ℕ) → v < 2 ^ 32 → le_z (pos 0) (integer_of v) ≡ not (sign v)
 not_below_is v h = split (ltb v (2 ^ 31)) (λ t. rw t (low_not_below v t)) (λ t. rw t (ap not (high_sign v h t)))
 
-not_above_is : (v : ℕ) → v < 2 ^ 32 → le_z (signed v) (pos 0) ≡ sign v || nought v
+not_above_is : (v : ℕ) → v < 2 ^ 32 → le_z (integer_of v) (pos 0) ≡ sign v || nought v
 not_above_is v h = split (ltb v (2 ^ 31)) (λ t. rw t (low_not_above v t)) (λ t. rw t (ap (λ p. p || nought v) (high_sign v h t)))
 
-above_is : (v : ℕ) → v < 2 ^ 32 → lt_z (pos 0) (signed v) ≡ not (sign v || nought v)
+above_is : (v : ℕ) → v < 2 ^ 32 → lt_z (pos 0) (integer_of v) ≡ not (sign v || nought v)
 above_is v h = split (ltb v (2 ^ 31)) (λ t. rw t (low_above v t)) (λ t. rw t (ap (λ p. not (p || nought v)) (high_sign v h t)))
 
 or_right : (p q : Bool) → p || q ≡ true → p ≡ false → q ≡ true
@@ -105,11 +105,11 @@ module _ (deny : Refusals) (lines : ℕ) (b : Book) (dt : ℕ) (fit : Fit b) (la
   abbrev left : ℕ → Rows
   left n = (n, fetch) ∷ []
 
-  goes : (n : ℕ) (h : Regs) (t : Bool) → t ≡ true → walk deny lines (gone n) (amid b h dt None n) ≡ ending lines (fetches deny (branches b t h)) dt
-  goes n h t k = lands deny lines b dt h ((h.pc + distance h.ir) % 2 ^ 32) (below (h.pc + distance h.ir)) ∙ ap (λ z. ending lines (fetches deny (branches b z h)) dt) (sym k)
+  goes : (n : ℕ) (h : Regs) (t : Bool) → t ≡ true → walk deny lines (gone n) (amid b h dt None n) ≡ ending lines (after_fetch deny (branch_if b t h)) dt
+  goes n h t k = lands deny lines b dt h ((h.pc + branch_offset h.ir) % 2 ^ 32) (below (h.pc + branch_offset h.ir)) ∙ ap (λ z. ending lines (after_fetch deny (branch_if b z h)) dt) (sym k)
 
-  leaves : (n : ℕ) (h : Regs) (t : Bool) → t ≡ false → walk deny lines (left n) (amid b h dt None n) ≡ ending lines (fetches deny (branches b t h)) dt
-  leaves n h t k = fetching deny lines b h dt n ∙ ap (λ z. ending lines (fetches deny (branches b z h)) dt) (sym k)
+  leaves : (n : ℕ) (h : Regs) (t : Bool) → t ≡ false → walk deny lines (left n) (amid b h dt None n) ≡ ending lines (after_fetch deny (branch_if b t h)) dt
+  leaves n h t k = fetching deny lines b h dt n ∙ ap (λ z. ending lines (after_fetch deny (branch_if b z h)) dt) (sym k)
 
   -- BEQ and BNE
   abbrev one : ℕ
@@ -127,25 +127,25 @@ module _ (deny : Refusals) (lines : ℕ) (b : Book) (dt : ℕ) (fit : Fit b) (la
   abbrev compares : ℕ → ℕ → Rows → Rows
   compares k a rest = (16, init) ∷ (256 + k * 4, row x.Rt y.C0 Sum r.Ad m.Nop e.Nop s.Next (256 + k * 4 + 1)) ∷ (256 + k * 4 + 1, row x.Rs y.Ad Dif r.Nop m.Nop e.Nop s.Nul a) ∷ rest
 
-  compares_gone : (k a n : ℕ) (t : Bool) → t ≡ true → walk deny lines (compares k a (gone n)) (stand b dt 16 None) ≡ ending lines (fetches deny (branches b t (with_ad other (risen b)))) dt
-  compares_gone k a n t h = ap (λ v. walk deny lines (gone n) (amid b (with_ad v (risen b)) dt None n)) other_word ∙ goes n (with_ad other (risen b)) t h
+  compares_gone : (k a n : ℕ) (t : Bool) → t ≡ true → walk deny lines (compares k a (gone n)) (world_at b dt 16 None) ≡ ending lines (after_fetch deny (branch_if b t (with_ad other (pc_risen b)))) dt
+  compares_gone k a n t h = ap (λ v. walk deny lines (gone n) (amid b (with_ad v (pc_risen b)) dt None n)) other_word ∙ goes n (with_ad other (pc_risen b)) t h
 
-  compares_left : (k a n : ℕ) (t : Bool) → t ≡ false → walk deny lines (compares k a (left n)) (stand b dt 16 None) ≡ ending lines (fetches deny (branches b t (with_ad other (risen b)))) dt
-  compares_left k a n t h = ap (λ v. walk deny lines (left n) (amid b (with_ad v (risen b)) dt None n)) other_word ∙ leaves n (with_ad other (risen b)) t h
+  compares_left : (k a n : ℕ) (t : Bool) → t ≡ false → walk deny lines (compares k a (left n)) (world_at b dt 16 None) ≡ ending lines (after_fetch deny (branch_if b t (with_ad other (pc_risen b)))) dt
+  compares_left k a n t h = ap (λ v. walk deny lines (left n) (amid b (with_ad v (pc_risen b)) dt None n)) other_word ∙ leaves n (with_ad other (pc_risen b)) t h
 
-  pub branches_equal_taken : (o : opcode g.ir ≡ 4) (t : eqb (reg (risen b) (rs g.ir)) (reg (risen b) (rt g.ir)) ≡ true) → Reaches deny lines b dt 16 None 6 (done deny b Instruction.branch_equal (risen b))
+  pub branches_equal_taken : (o : opcode g.ir ≡ 4) (t : eqb (reg (pc_risen b) (rs g.ir)) (reg (pc_risen b) (rt g.ir)) ≡ true) → Reaches deny lines b dt 16 None 6 (effect_of deny b Instruction.branch_equal (pc_risen b))
   unfolding rows
   branches_equal_taken o t = record { rows = compares 4 32 (gone 33); long = refl; plain = refl; leads = (refl, refl, (ap (λ n. 256 + n * 4) o, refl, (refl, refl, (ap (λ z. 32 + one_if z) (same ∙ t), refl, (refl, refl, (refl, refl, tt)))))); last = dt; arrives = compares_gone 4 32 33 (eqb one other) t }
 
-  pub branches_equal_not : (o : opcode g.ir ≡ 4) (t : eqb (reg (risen b) (rs g.ir)) (reg (risen b) (rt g.ir)) ≡ false) → Reaches deny lines b dt 16 None 4 (done deny b Instruction.branch_equal (risen b))
+  pub branches_equal_not : (o : opcode g.ir ≡ 4) (t : eqb (reg (pc_risen b) (rs g.ir)) (reg (pc_risen b) (rt g.ir)) ≡ false) → Reaches deny lines b dt 16 None 4 (effect_of deny b Instruction.branch_equal (pc_risen b))
   unfolding rows
   branches_equal_not o t = record { rows = compares 4 32 (left 32); long = refl; plain = refl; leads = (refl, refl, (ap (λ n. 256 + n * 4) o, refl, (refl, refl, (ap (λ z. 32 + one_if z) (same ∙ t), refl, tt)))); last = dt; arrives = compares_left 4 32 32 (eqb one other) t }
 
-  pub branches_unequal_taken : (o : opcode g.ir ≡ 5) (t : not (eqb (reg (risen b) (rs g.ir)) (reg (risen b) (rt g.ir))) ≡ true) → Reaches deny lines b dt 16 None 6 (done deny b Instruction.branch_unequal (risen b))
+  pub branches_unequal_taken : (o : opcode g.ir ≡ 5) (t : not (eqb (reg (pc_risen b) (rs g.ir)) (reg (pc_risen b) (rt g.ir))) ≡ true) → Reaches deny lines b dt 16 None 6 (effect_of deny b Instruction.branch_unequal (pc_risen b))
   unfolding rows
   branches_unequal_taken o t = record { rows = compares 5 34 (gone 34); long = refl; plain = refl; leads = (refl, refl, (ap (λ n. 256 + n * 4) o, refl, (refl, refl, (ap (λ z. 34 + one_if z) (same ∙ not_true (eqb one other) t), refl, (refl, refl, (refl, refl, tt)))))); last = dt; arrives = compares_gone 5 34 34 (not (eqb one other)) t }
 
-  pub branches_unequal_not : (o : opcode g.ir ≡ 5) (t : not (eqb (reg (risen b) (rs g.ir)) (reg (risen b) (rt g.ir))) ≡ false) → Reaches deny lines b dt 16 None 4 (done deny b Instruction.branch_unequal (risen b))
+  pub branches_unequal_not : (o : opcode g.ir ≡ 5) (t : not (eqb (reg (pc_risen b) (rs g.ir)) (reg (pc_risen b) (rt g.ir))) ≡ false) → Reaches deny lines b dt 16 None 4 (effect_of deny b Instruction.branch_unequal (pc_risen b))
   unfolding rows
   branches_unequal_not o t = record { rows = compares 5 34 (left 35); long = refl; plain = refl; leads = (refl, refl, (ap (λ n. 256 + n * 4) o, refl, (refl, refl, (ap (λ z. 34 + one_if z) (same ∙ not_false (eqb one other) t), refl, tt)))); last = dt; arrives = compares_left 5 34 35 (not (eqb one other)) t }
 
@@ -163,39 +163,39 @@ module _ (deny : Refusals) (lines : ℕ) (b : Book) (dt : ℕ) (fit : Fit b) (la
   abbrev tests : ℕ → ℕ → Rows → Rows
   tests k a rest = (16, init) ∷ (256 + k * 4, tester a) ∷ rest
 
-  tests_gone : (k a n : ℕ) (t : Bool) → opcode g.ir ≡ k → row_at (256 + k * 4) ≡ tester a → turned a one ≡ n → row_at n ≡ aim → t ≡ true → Reaches deny lines b dt 16 None 5 (branches b t (risen b))
+  tests_gone : (k a n : ℕ) (t : Bool) → opcode g.ir ≡ k → row_at (256 + k * 4) ≡ tester a → turned a one ≡ n → row_at n ≡ aim → t ≡ true → Reaches deny lines b dt 16 None 5 (branch_if b t (pc_risen b))
   unfolding rows
-  tests_gone k a n t o h1 at h2 k1 = record { rows = tests k a (gone n); long = refl; plain = refl; leads = (refl, refl, (ap (λ i. 256 + i * 4) o, h1, (at, h2, (refl, refl, (refl, refl, tt))))); last = dt; arrives = goes n (risen b) t k1 }
+  tests_gone k a n t o h1 at h2 k1 = record { rows = tests k a (gone n); long = refl; plain = refl; leads = (refl, refl, (ap (λ i. 256 + i * 4) o, h1, (at, h2, (refl, refl, (refl, refl, tt))))); last = dt; arrives = goes n (pc_risen b) t k1 }
 
-  tests_left : (k a n : ℕ) (t : Bool) → opcode g.ir ≡ k → row_at (256 + k * 4) ≡ tester a → turned a one ≡ n → row_at n ≡ fetch → t ≡ false → Reaches deny lines b dt 16 None 3 (branches b t (risen b))
+  tests_left : (k a n : ℕ) (t : Bool) → opcode g.ir ≡ k → row_at (256 + k * 4) ≡ tester a → turned a one ≡ n → row_at n ≡ fetch → t ≡ false → Reaches deny lines b dt 16 None 3 (branch_if b t (pc_risen b))
   unfolding rows
-  tests_left k a n t o h1 at h2 k1 = record { rows = tests k a (left n); long = refl; plain = refl; leads = (refl, refl, (ap (λ i. 256 + i * 4) o, h1, (at, h2, tt))); last = dt; arrives = leaves n (risen b) t k1 }
+  tests_left k a n t o h1 at h2 k1 = record { rows = tests k a (left n); long = refl; plain = refl; leads = (refl, refl, (ap (λ i. 256 + i * 4) o, h1, (at, h2, tt))); last = dt; arrives = leaves n (pc_risen b) t k1 }
 
-  pub branches_not_above_taken : (o : opcode g.ir ≡ 6) (t : le_z (signed (reg (risen b) (rs g.ir))) (pos 0) ≡ true) → Reaches deny lines b dt 16 None 5 (done deny b Instruction.branch_not_above (risen b))
+  pub branches_not_above_taken : (o : opcode g.ir ≡ 6) (t : le_z (integer_of (reg (pc_risen b) (rs g.ir))) (pos 0) ≡ true) → Reaches deny lines b dt 16 None 5 (effect_of deny b Instruction.branch_not_above (pc_risen b))
   unfolding rows
   branches_not_above_taken o t =
       split (sign one)
-      (λ p. tests_gone 6 44 46 (le_z (signed one) (pos 0)) o refl (turn 44 (sign one) (nought one) true false p (sign_alone one p)) refl t)
-      (λ p. tests_gone 6 44 45 (le_z (signed one) (pos 0)) o refl (turn 44 (sign one) (nought one) false true p (or_right (sign one) (nought one) (sym (not_above_is one one_small) ∙ t) p)) refl t)
+      (λ p. tests_gone 6 44 46 (le_z (integer_of one) (pos 0)) o refl (turn 44 (sign one) (nought one) true false p (sign_alone one p)) refl t)
+      (λ p. tests_gone 6 44 45 (le_z (integer_of one) (pos 0)) o refl (turn 44 (sign one) (nought one) false true p (or_right (sign one) (nought one) (sym (not_above_is one one_small) ∙ t) p)) refl t)
 
-  pub branches_not_above_not : (o : opcode g.ir ≡ 6) (t : le_z (signed (reg (risen b) (rs g.ir))) (pos 0) ≡ false) → Reaches deny lines b dt 16 None 3 (done deny b Instruction.branch_not_above (risen b))
+  pub branches_not_above_not : (o : opcode g.ir ≡ 6) (t : le_z (integer_of (reg (pc_risen b) (rs g.ir))) (pos 0) ≡ false) → Reaches deny lines b dt 16 None 3 (effect_of deny b Instruction.branch_not_above (pc_risen b))
   unfolding rows
   branches_not_above_not o t =
       let q : sign one || nought one ≡ false = sym (not_above_is one one_small) ∙ t in
-      tests_left 6 44 44 (le_z (signed one) (pos 0)) o refl (turn 44 (sign one) (nought one) false false (or_left_none (sign one) (nought one) q) (or_right_none (sign one) (nought one) q)) refl t
+      tests_left 6 44 44 (le_z (integer_of one) (pos 0)) o refl (turn 44 (sign one) (nought one) false false (or_left_none (sign one) (nought one) q) (or_right_none (sign one) (nought one) q)) refl t
 
-  pub branches_above_taken : (o : opcode g.ir ≡ 7) (t : lt_z (pos 0) (signed (reg (risen b) (rs g.ir))) ≡ true) → Reaches deny lines b dt 16 None 5 (done deny b Instruction.branch_above (risen b))
+  pub branches_above_taken : (o : opcode g.ir ≡ 7) (t : lt_z (pos 0) (integer_of (reg (pc_risen b) (rs g.ir))) ≡ true) → Reaches deny lines b dt 16 None 5 (effect_of deny b Instruction.branch_above (pc_risen b))
   unfolding rows
   branches_above_taken o t =
       let q : sign one || nought one ≡ false = not_true (sign one || nought one) (sym (above_is one one_small) ∙ t) in
-      tests_gone 7 48 48 (lt_z (pos 0) (signed one)) o refl (turn 48 (sign one) (nought one) false false (or_left_none (sign one) (nought one) q) (or_right_none (sign one) (nought one) q)) refl t
+      tests_gone 7 48 48 (lt_z (pos 0) (integer_of one)) o refl (turn 48 (sign one) (nought one) false false (or_left_none (sign one) (nought one) q) (or_right_none (sign one) (nought one) q)) refl t
 
-  pub branches_above_not : (o : opcode g.ir ≡ 7) (t : lt_z (pos 0) (signed (reg (risen b) (rs g.ir))) ≡ false) → Reaches deny lines b dt 16 None 3 (done deny b Instruction.branch_above (risen b))
+  pub branches_above_not : (o : opcode g.ir ≡ 7) (t : lt_z (pos 0) (integer_of (reg (pc_risen b) (rs g.ir))) ≡ false) → Reaches deny lines b dt 16 None 3 (effect_of deny b Instruction.branch_above (pc_risen b))
   unfolding rows
   branches_above_not o t =
       split (sign one)
-      (λ p. tests_left 7 48 50 (lt_z (pos 0) (signed one)) o refl (turn 48 (sign one) (nought one) true false p (sign_alone one p)) refl t)
-      (λ p. tests_left 7 48 49 (lt_z (pos 0) (signed one)) o refl (turn 48 (sign one) (nought one) false true p (or_right (sign one) (nought one) (not_false (sign one || nought one) (sym (above_is one one_small) ∙ t)) p)) refl t)
+      (λ p. tests_left 7 48 50 (lt_z (pos 0) (integer_of one)) o refl (turn 48 (sign one) (nought one) true false p (sign_alone one p)) refl t)
+      (λ p. tests_left 7 48 49 (lt_z (pos 0) (integer_of one)) o refl (turn 48 (sign one) (nought one) false true p (or_right (sign one) (nought one) (not_false (sign one || nought one) (sym (above_is one one_small) ∙ t)) p)) refl t)
 
   -- BLTZ and BGEZ
   abbrev decides : Row
@@ -208,67 +208,67 @@ module _ (deny : Refusals) (lines : ℕ) (b : Book) (dt : ℕ) (fit : Fit b) (la
   abbrev signs : ℕ → ℕ → Rows → Rows
   signs d a rest = (16, init) ∷ (260, decides) ∷ (d, tester a) ∷ rest
 
-  signs_gone : (d a n : ℕ) (t : Bool) → opcode g.ir ≡ 1 → chosen ≡ d → row_at d ≡ tester a → turned a one ≡ n → row_at n ≡ aim → t ≡ true → Reaches deny lines b dt 16 None 6 (branches b t (risen b))
+  signs_gone : (d a n : ℕ) (t : Bool) → opcode g.ir ≡ 1 → chosen ≡ d → row_at d ≡ tester a → turned a one ≡ n → row_at n ≡ aim → t ≡ true → Reaches deny lines b dt 16 None 6 (branch_if b t (pc_risen b))
   unfolding rows
-  signs_gone d a n t o c h1 at h2 k1 = record { rows = signs d a (gone n); long = refl; plain = refl; leads = (refl, refl, (ap (λ i. 256 + i * 4) o, refl, (c, h1, (at, h2, (refl, refl, (refl, refl, tt)))))); last = dt; arrives = goes n (risen b) t k1 }
+  signs_gone d a n t o c h1 at h2 k1 = record { rows = signs d a (gone n); long = refl; plain = refl; leads = (refl, refl, (ap (λ i. 256 + i * 4) o, refl, (c, h1, (at, h2, (refl, refl, (refl, refl, tt)))))); last = dt; arrives = goes n (pc_risen b) t k1 }
 
-  signs_left : (d a n : ℕ) (t : Bool) → opcode g.ir ≡ 1 → chosen ≡ d → row_at d ≡ tester a → turned a one ≡ n → row_at n ≡ fetch → t ≡ false → Reaches deny lines b dt 16 None 4 (branches b t (risen b))
+  signs_left : (d a n : ℕ) (t : Bool) → opcode g.ir ≡ 1 → chosen ≡ d → row_at d ≡ tester a → turned a one ≡ n → row_at n ≡ fetch → t ≡ false → Reaches deny lines b dt 16 None 4 (branch_if b t (pc_risen b))
   unfolding rows
-  signs_left d a n t o c h1 at h2 k1 = record { rows = signs d a (left n); long = refl; plain = refl; leads = (refl, refl, (ap (λ i. 256 + i * 4) o, refl, (c, h1, (at, h2, tt)))); last = dt; arrives = leaves n (risen b) t k1 }
+  signs_left d a n t o c h1 at h2 k1 = record { rows = signs d a (left n); long = refl; plain = refl; leads = (refl, refl, (ap (λ i. 256 + i * 4) o, refl, (c, h1, (at, h2, tt)))); last = dt; arrives = leaves n (pc_risen b) t k1 }
 
-  pub branches_below_taken : (o : opcode g.ir ≡ 1) (w : bit 16 g.ir ≡ false) (l : bit 20 g.ir ≡ false) (t : lt_z (signed (reg (linked false (risen b)) (rs g.ir))) (pos 0) ≡ true) → Reaches deny lines b dt 16 None 6 (done deny b (Instruction.branch_below false) (risen b))
+  pub branches_below_taken : (o : opcode g.ir ≡ 1) (w : bit 16 g.ir ≡ false) (l : bit 20 g.ir ≡ false) (t : lt_z (integer_of (reg (with_link false (pc_risen b)) (rs g.ir))) (pos 0) ≡ true) → Reaches deny lines b dt 16 None 6 (effect_of deny b (Instruction.branch_below false) (pc_risen b))
   unfolding rows
   branches_below_taken o w l t =
       let p : sign one ≡ true = sym (below_is one one_small) ∙ t in
-      signs_gone 192 36 38 (lt_z (signed one) (pos 0)) o (turn 192 (bit 20 g.ir) (bit 16 g.ir) false false l w) refl (turn 36 (sign one) (nought one) true false p (sign_alone one p)) refl t
+      signs_gone 192 36 38 (lt_z (integer_of one) (pos 0)) o (turn 192 (bit 20 g.ir) (bit 16 g.ir) false false l w) refl (turn 36 (sign one) (nought one) true false p (sign_alone one p)) refl t
 
-  pub branches_below_not : (o : opcode g.ir ≡ 1) (w : bit 16 g.ir ≡ false) (l : bit 20 g.ir ≡ false) (t : lt_z (signed (reg (linked false (risen b)) (rs g.ir))) (pos 0) ≡ false) → Reaches deny lines b dt 16 None 4 (done deny b (Instruction.branch_below false) (risen b))
+  pub branches_below_not : (o : opcode g.ir ≡ 1) (w : bit 16 g.ir ≡ false) (l : bit 20 g.ir ≡ false) (t : lt_z (integer_of (reg (with_link false (pc_risen b)) (rs g.ir))) (pos 0) ≡ false) → Reaches deny lines b dt 16 None 4 (effect_of deny b (Instruction.branch_below false) (pc_risen b))
   unfolding rows
   branches_below_not o w l t =
       let p : sign one ≡ false = sym (below_is one one_small) ∙ t in
       let c : chosen ≡ 192 = turn 192 (bit 20 g.ir) (bit 16 g.ir) false false l w in
       split (nought one)
-      (λ q. signs_left 192 36 37 (lt_z (signed one) (pos 0)) o c refl (turn 36 (sign one) (nought one) false true p q) refl t)
-      (λ q. signs_left 192 36 36 (lt_z (signed one) (pos 0)) o c refl (turn 36 (sign one) (nought one) false false p q) refl t)
+      (λ q. signs_left 192 36 37 (lt_z (integer_of one) (pos 0)) o c refl (turn 36 (sign one) (nought one) false true p q) refl t)
+      (λ q. signs_left 192 36 36 (lt_z (integer_of one) (pos 0)) o c refl (turn 36 (sign one) (nought one) false false p q) refl t)
 
-  pub branches_not_below_taken : (o : opcode g.ir ≡ 1) (w : bit 16 g.ir ≡ true) (l : bit 20 g.ir ≡ false) (t : le_z (pos 0) (signed (reg (linked false (risen b)) (rs g.ir))) ≡ true) → Reaches deny lines b dt 16 None 6 (done deny b (Instruction.branch_not_below false) (risen b))
+  pub branches_not_below_taken : (o : opcode g.ir ≡ 1) (w : bit 16 g.ir ≡ true) (l : bit 20 g.ir ≡ false) (t : le_z (pos 0) (integer_of (reg (with_link false (pc_risen b)) (rs g.ir))) ≡ true) → Reaches deny lines b dt 16 None 6 (effect_of deny b (Instruction.branch_not_below false) (pc_risen b))
   unfolding rows
   branches_not_below_taken o w l t =
       let p : sign one ≡ false = not_true (sign one) (sym (not_below_is one one_small) ∙ t) in
       let c : chosen ≡ 193 = turn 192 (bit 20 g.ir) (bit 16 g.ir) false true l w in
       split (nought one)
-      (λ q. signs_gone 193 40 41 (le_z (pos 0) (signed one)) o c refl (turn 40 (sign one) (nought one) false true p q) refl t)
-      (λ q. signs_gone 193 40 40 (le_z (pos 0) (signed one)) o c refl (turn 40 (sign one) (nought one) false false p q) refl t)
+      (λ q. signs_gone 193 40 41 (le_z (pos 0) (integer_of one)) o c refl (turn 40 (sign one) (nought one) false true p q) refl t)
+      (λ q. signs_gone 193 40 40 (le_z (pos 0) (integer_of one)) o c refl (turn 40 (sign one) (nought one) false false p q) refl t)
 
-  pub branches_not_below_not : (o : opcode g.ir ≡ 1) (w : bit 16 g.ir ≡ true) (l : bit 20 g.ir ≡ false) (t : le_z (pos 0) (signed (reg (linked false (risen b)) (rs g.ir))) ≡ false) → Reaches deny lines b dt 16 None 4 (done deny b (Instruction.branch_not_below false) (risen b))
+  pub branches_not_below_not : (o : opcode g.ir ≡ 1) (w : bit 16 g.ir ≡ true) (l : bit 20 g.ir ≡ false) (t : le_z (pos 0) (integer_of (reg (with_link false (pc_risen b)) (rs g.ir))) ≡ false) → Reaches deny lines b dt 16 None 4 (effect_of deny b (Instruction.branch_not_below false) (pc_risen b))
   unfolding rows
   branches_not_below_not o w l t =
       let p : sign one ≡ true = not_false (sign one) (sym (not_below_is one one_small) ∙ t) in
-      signs_left 193 40 42 (le_z (pos 0) (signed one)) o (turn 192 (bit 20 g.ir) (bit 16 g.ir) false true l w) refl (turn 40 (sign one) (nought one) true false p (sign_alone one p)) refl t
+      signs_left 193 40 42 (le_z (pos 0) (integer_of one)) o (turn 192 (bit 20 g.ir) (bit 16 g.ir) false true l w) refl (turn 40 (sign one) (nought one) true false p (sign_alone one p)) refl t
 
   -- BLTZAL and BGEZAL: RS is read after the link is written
   abbrev linking : ℕ → Row
   linking d = row x.Pc y.C0 Sum r.R31 m.Nop e.Nop s.Next d
 
-  abbrev with_link : ℕ → Regs
-  with_link v = put 31 v (risen b)
+  abbrev link_in : ℕ → Regs
+  link_in v = with_register 31 v (pc_risen b)
 
   next_word : (next + 0) % 2 ^ 32 ≡ next
   next_word = plus_nothing next (below (b.regs.pc + 4))
 
   abbrev then : ℕ
-  then = reg (with_link next) (rs g.ir)
+  then = reg (link_in next) (rs g.ir)
 
   then_small : then < 2 ^ 32
-  then_small = law.general (risen b) 31 (rs g.ir) next (below (b.regs.pc + 4)) fit.words.general
+  then_small = law.general (pc_risen b) 31 (rs g.ir) next (below (b.regs.pc + 4)) fit.words.general
 
   abbrev links : ℕ → ℕ → ℕ → Rows → Rows
   links c d a rest = (16, init) ∷ (260, decides) ∷ (c, linking d) ∷ (d, tester a) ∷ rest
 
-  then_turned : (a n : ℕ) → turned a then ≡ n → turned a (reg (with_link ((next + 0) % 2 ^ 32)) (rs g.ir)) ≡ n
-  then_turned a n at = ap (λ v. turned a (reg (with_link v) (rs g.ir))) next_word ∙ at
+  then_turned : (a n : ℕ) → turned a then ≡ n → turned a (reg (link_in ((next + 0) % 2 ^ 32)) (rs g.ir)) ≡ n
+  then_turned a n at = ap (λ v. turned a (reg (link_in v) (rs g.ir))) next_word ∙ at
 
-  links_gone : (c d a n : ℕ) (t : Bool) → opcode g.ir ≡ 1 → chosen ≡ c → row_at c ≡ linking d → row_at d ≡ tester a → turned a then ≡ n → row_at n ≡ aim → t ≡ true → Reaches deny lines b dt 16 None 7 (branches b t (with_link next))
+  links_gone : (c d a n : ℕ) (t : Bool) → opcode g.ir ≡ 1 → chosen ≡ c → row_at c ≡ linking d → row_at d ≡ tester a → turned a then ≡ n → row_at n ≡ aim → t ≡ true → Reaches deny lines b dt 16 None 7 (branch_if b t (link_in next))
   unfolding rows
   links_gone c d a n t o h0 h1 h2 at h3 k1 =
       record {
@@ -277,10 +277,10 @@ module _ (deny : Refusals) (lines : ℕ) (b : Book) (dt : ℕ) (fit : Fit b) (la
         plain = refl;
         leads = (refl, refl, (ap (λ i. 256 + i * 4) o, refl, (h0, h1, (refl, h2, (then_turned a n at, h3, (refl, refl, (refl, refl, tt)))))));
         last = dt;
-        arrives = ap (λ v. walk deny lines (gone n) (amid b (with_link v) dt None n)) next_word ∙ goes n (with_link next) t k1;
+        arrives = ap (λ v. walk deny lines (gone n) (amid b (link_in v) dt None n)) next_word ∙ goes n (link_in next) t k1;
       }
 
-  links_left : (c d a n : ℕ) (t : Bool) → opcode g.ir ≡ 1 → chosen ≡ c → row_at c ≡ linking d → row_at d ≡ tester a → turned a then ≡ n → row_at n ≡ fetch → t ≡ false → Reaches deny lines b dt 16 None 5 (branches b t (with_link next))
+  links_left : (c d a n : ℕ) (t : Bool) → opcode g.ir ≡ 1 → chosen ≡ c → row_at c ≡ linking d → row_at d ≡ tester a → turned a then ≡ n → row_at n ≡ fetch → t ≡ false → Reaches deny lines b dt 16 None 5 (branch_if b t (link_in next))
   unfolding rows
   links_left c d a n t o h0 h1 h2 at h3 k1 =
       record {
@@ -289,35 +289,35 @@ module _ (deny : Refusals) (lines : ℕ) (b : Book) (dt : ℕ) (fit : Fit b) (la
         plain = refl;
         leads = (refl, refl, (ap (λ i. 256 + i * 4) o, refl, (h0, h1, (refl, h2, (then_turned a n at, h3, tt)))));
         last = dt;
-        arrives = ap (λ v. walk deny lines (left n) (amid b (with_link v) dt None n)) next_word ∙ leaves n (with_link next) t k1;
+        arrives = ap (λ v. walk deny lines (left n) (amid b (link_in v) dt None n)) next_word ∙ leaves n (link_in next) t k1;
       }
 
-  pub branches_below_link_taken : (o : opcode g.ir ≡ 1) (w : bit 16 g.ir ≡ false) (l : bit 20 g.ir ≡ true) (t : lt_z (signed (reg (linked true (risen b)) (rs g.ir))) (pos 0) ≡ true) → Reaches deny lines b dt 16 None 7 (done deny b (Instruction.branch_below true) (risen b))
+  pub branches_below_link_taken : (o : opcode g.ir ≡ 1) (w : bit 16 g.ir ≡ false) (l : bit 20 g.ir ≡ true) (t : lt_z (integer_of (reg (with_link true (pc_risen b)) (rs g.ir))) (pos 0) ≡ true) → Reaches deny lines b dt 16 None 7 (effect_of deny b (Instruction.branch_below true) (pc_risen b))
   unfolding rows
   branches_below_link_taken o w l t =
       let p : sign then ≡ true = sym (below_is then then_small) ∙ t in
-      links_gone 194 192 36 38 (lt_z (signed then) (pos 0)) o (turn 192 (bit 20 g.ir) (bit 16 g.ir) true false l w) refl refl (turn 36 (sign then) (nought then) true false p (sign_alone then p)) refl t
+      links_gone 194 192 36 38 (lt_z (integer_of then) (pos 0)) o (turn 192 (bit 20 g.ir) (bit 16 g.ir) true false l w) refl refl (turn 36 (sign then) (nought then) true false p (sign_alone then p)) refl t
 
-  pub branches_below_link_not : (o : opcode g.ir ≡ 1) (w : bit 16 g.ir ≡ false) (l : bit 20 g.ir ≡ true) (t : lt_z (signed (reg (linked true (risen b)) (rs g.ir))) (pos 0) ≡ false) → Reaches deny lines b dt 16 None 5 (done deny b (Instruction.branch_below true) (risen b))
+  pub branches_below_link_not : (o : opcode g.ir ≡ 1) (w : bit 16 g.ir ≡ false) (l : bit 20 g.ir ≡ true) (t : lt_z (integer_of (reg (with_link true (pc_risen b)) (rs g.ir))) (pos 0) ≡ false) → Reaches deny lines b dt 16 None 5 (effect_of deny b (Instruction.branch_below true) (pc_risen b))
   unfolding rows
   branches_below_link_not o w l t =
       let p : sign then ≡ false = sym (below_is then then_small) ∙ t in
       let c : chosen ≡ 194 = turn 192 (bit 20 g.ir) (bit 16 g.ir) true false l w in
       split (nought then)
-      (λ q. links_left 194 192 36 37 (lt_z (signed then) (pos 0)) o c refl refl (turn 36 (sign then) (nought then) false true p q) refl t)
-      (λ q. links_left 194 192 36 36 (lt_z (signed then) (pos 0)) o c refl refl (turn 36 (sign then) (nought then) false false p q) refl t)
+      (λ q. links_left 194 192 36 37 (lt_z (integer_of then) (pos 0)) o c refl refl (turn 36 (sign then) (nought then) false true p q) refl t)
+      (λ q. links_left 194 192 36 36 (lt_z (integer_of then) (pos 0)) o c refl refl (turn 36 (sign then) (nought then) false false p q) refl t)
 
-  pub branches_not_below_link_taken : (o : opcode g.ir ≡ 1) (w : bit 16 g.ir ≡ true) (l : bit 20 g.ir ≡ true) (t : le_z (pos 0) (signed (reg (linked true (risen b)) (rs g.ir))) ≡ true) → Reaches deny lines b dt 16 None 7 (done deny b (Instruction.branch_not_below true) (risen b))
+  pub branches_not_below_link_taken : (o : opcode g.ir ≡ 1) (w : bit 16 g.ir ≡ true) (l : bit 20 g.ir ≡ true) (t : le_z (pos 0) (integer_of (reg (with_link true (pc_risen b)) (rs g.ir))) ≡ true) → Reaches deny lines b dt 16 None 7 (effect_of deny b (Instruction.branch_not_below true) (pc_risen b))
   unfolding rows
   branches_not_below_link_taken o w l t =
       let p : sign then ≡ false = not_true (sign then) (sym (not_below_is then then_small) ∙ t) in
       let c : chosen ≡ 195 = turn 192 (bit 20 g.ir) (bit 16 g.ir) true true l w in
       split (nought then)
-      (λ q. links_gone 195 193 40 41 (le_z (pos 0) (signed then)) o c refl refl (turn 40 (sign then) (nought then) false true p q) refl t)
-      (λ q. links_gone 195 193 40 40 (le_z (pos 0) (signed then)) o c refl refl (turn 40 (sign then) (nought then) false false p q) refl t)
+      (λ q. links_gone 195 193 40 41 (le_z (pos 0) (integer_of then)) o c refl refl (turn 40 (sign then) (nought then) false true p q) refl t)
+      (λ q. links_gone 195 193 40 40 (le_z (pos 0) (integer_of then)) o c refl refl (turn 40 (sign then) (nought then) false false p q) refl t)
 
-  pub branches_not_below_link_not : (o : opcode g.ir ≡ 1) (w : bit 16 g.ir ≡ true) (l : bit 20 g.ir ≡ true) (t : le_z (pos 0) (signed (reg (linked true (risen b)) (rs g.ir))) ≡ false) → Reaches deny lines b dt 16 None 5 (done deny b (Instruction.branch_not_below true) (risen b))
+  pub branches_not_below_link_not : (o : opcode g.ir ≡ 1) (w : bit 16 g.ir ≡ true) (l : bit 20 g.ir ≡ true) (t : le_z (pos 0) (integer_of (reg (with_link true (pc_risen b)) (rs g.ir))) ≡ false) → Reaches deny lines b dt 16 None 5 (effect_of deny b (Instruction.branch_not_below true) (pc_risen b))
   unfolding rows
   branches_not_below_link_not o w l t =
       let p : sign then ≡ true = not_false (sign then) (sym (not_below_is then then_small) ∙ t) in
-      links_left 195 193 40 42 (le_z (pos 0) (signed then)) o (turn 192 (bit 20 g.ir) (bit 16 g.ir) true true l w) refl refl (turn 40 (sign then) (nought then) true false p (sign_alone then p)) refl t
+      links_left 195 193 40 42 (le_z (pos 0) (integer_of then)) o (turn 192 (bit 20 g.ir) (bit 16 g.ir) true true l w) refl refl (turn 40 (sign then) (nought then) true false p (sign_alone then p)) refl t

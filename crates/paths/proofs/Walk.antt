@@ -22,11 +22,11 @@ use Rattle.rows.specs.declared.row.Sequencing.{Sequencing}
 use Rattle.rows.specs.declared.row.Sequencing.TheVariants as s
 use Rattle.rows.specs.declared.row.Transfer.{Transfer}
 use Rattle.rows.specs.declared.row.Transfer.TheVariants as m
-use Rattle.microprogram.specs.Cycle.{ends}
-use Rattle.book.specs.Book.{Book, Made, Refusals, did, fetches}
+use Rattle.microprogram.specs.Cycle.{ends_path}
+use Rattle.book.specs.Book.{Book, Effect, Refusals, after_fetch, without_fault}
 use Rattle.book.specs.Fit.{Fit}
-use Rattle.paths.specs.Instant.{World, tick, ticked, ticks}
-use Rattle.paths.specs.Path.{stand}
+use Rattle.paths.specs.Instant.{World, tick, ticks, world_after_row}
+use Rattle.paths.specs.Path.{world_at}
 
 -- rows with their addresses
 abbrev pub Rows : Type 0
@@ -35,21 +35,21 @@ Rows = List (ℕ × Row)
 -- a walk along them
 abbrev pub walk : Refusals → ℕ → Rows → World → World
 walk r lines [] s = s
-walk r lines (p ∷ ps) s = walk r lines ps (ticked p.1 r lines s)
+walk r lines (p ∷ ps) s = walk r lines ps (world_after_row p.1 r lines s)
 
 -- each row is the one that the world has come to
 abbrev pub Leads : Refusals → ℕ → Rows → World → Type 0
 Leads r lines [] s = Unit {0}
-Leads r lines (p ∷ ps) s = (s.state.row ≡ p.0) × (row_at p.0 ≡ p.1) × Leads r lines ps (ticked p.1 r lines s)
+Leads r lines (p ∷ ps) s = (s.state.row ≡ p.0) × (row_at p.0 ≡ p.1) × Leads r lines ps (world_after_row p.1 r lines s)
 
 pub walked : (r : Refusals) (lines : ℕ) (ps : Rows) (s : World) → Leads r lines ps s → ticks r lines (length ps) s ≡ walk r lines ps s
 unfolding tick ticks
 walked r lines [] s h = refl
 walked r lines (p ∷ ps) s h =
-    ap (λ w. ticks r lines (length ps) (ticked w r lines s)) (ap row_at h.0 ∙ h.1) ∙ walked r lines ps (ticked p.1 r lines s) h.2
+    ap (λ w. ticks r lines (length ps) (world_after_row w r lines s)) (ap row_at h.0 ∙ h.1) ∙ walked r lines ps (world_after_row p.1 r lines s) h.2
 
 -- the world at the boundary that ends a step
-abbrev pub ending : ℕ → Made → ℕ → World
+abbrev pub ending : ℕ → Effect → ℕ → World
 ending lines m dt =
     record {
       state =
@@ -58,7 +58,7 @@ ending lines m dt =
             dt = dt;
             flag = m.fault;
             row = 16 + one_if (resetting lines) * 4 + one_if (interrupting m.mask lines) * 2 + one_if (is_some m.fault);
-            lines = lines;
+            sampled = lines;
             ledger = m.ledger;
           };
       bytes = m.bytes;
@@ -67,17 +67,17 @@ ending lines m dt =
 -- all rows but the last go on, and the last ends the path
 abbrev pub only_last : Rows → Bool
 only_last [] = false
-only_last (p ∷ []) = ends p.1.sequencing
-only_last (p ∷ (q ∷ ps)) = not (ends p.1.sequencing) && only_last (q ∷ ps)
+only_last (p ∷ []) = ends_path p.1.sequencing
+only_last (p ∷ (q ∷ ps)) = not (ends_path p.1.sequencing) && only_last (q ∷ ps)
 
 -- a path of n rows from where the microprogram stands to the boundary at which what was made, and fetched, stands
-pub record Reaches (deny : Refusals) (lines : ℕ) (b : Book) (dt row : ℕ) (flag : Option Fault) (n : ℕ) (m : Made) : Type 0 where
+pub record Reaches (deny : Refusals) (lines : ℕ) (b : Book) (dt row : ℕ) (flag : Option Fault) (n : ℕ) (m : Effect) : Type 0 where
   pub rows : Rows
   pub long : length rows ≡ n
   pub plain : only_last rows ≡ true
-  pub leads : Leads deny lines rows (stand b dt row flag)
+  pub leads : Leads deny lines rows (world_at b dt row flag)
   pub last : ℕ
-  pub arrives : walk deny lines rows (stand b dt row flag) ≡ ending lines (fetches deny m) last
+  pub arrives : walk deny lines rows (world_at b dt row flag) ≡ ending lines (after_fetch deny m) last
 
 -- a word plus nothing is the word
 pub plus_nothing : (x : ℕ) → x < 2 ^ 32 → (x + 0) % 2 ^ 32 ≡ x
@@ -109,10 +109,10 @@ fetch = row x.C0 y.C0 Sum r.Nop m.If e.Ibe s.Rie 16
 -- a world on the way of a step: its registers, DT, flag and row, and all else as at the start
 abbrev pub amid : Book → Regs → ℕ → Option Fault → ℕ → World
 amid b g dt flag at =
-    record { state = record { regs = g; dt = dt; flag = flag; row = at; lines = b.lines; ledger = b.ledger }; bytes = b.bytes }
+    record { state = record { regs = g; dt = dt; flag = flag; row = at; sampled = b.sampled; ledger = b.ledger }; bytes = b.bytes }
 
 -- the fetch behind registers that a step left
-pub fetching : (deny : Refusals) (lines : ℕ) (b : Book) (g : Regs) (dt at : ℕ) → walk deny lines ((at, fetch) ∷ []) (amid b g dt None at) ≡ ending lines (fetches deny (did b g)) dt
+pub fetching : (deny : Refusals) (lines : ℕ) (b : Book) (g : Regs) (dt at : ℕ) → walk deny lines ((at, fetch) ∷ []) (amid b g dt None at) ≡ ending lines (after_fetch deny (without_fault b g)) dt
 fetching deny lines b g dt at = split (deny.unreadable (word_of g.pc)) (λ q. rw q) (λ q. rw q)
 
 -- RT and RS, passed on through a sum with nothing

@@ -2,24 +2,24 @@
 use Rattle.std.specs.Prelude.{◌≡◌, ℕ, ◌+◌, ◌<◌, ◌≤◌, Bool, true, false, ◌⊎◌, Some, None, Option}
 use Rattle.machine.specs.declared.fault.Fault.{Fault}
 use Rattle.rows.specs.Rows.{row_at}
-use Rattle.microprogram.specs.Cycle.{ends, powered}
-use Rattle.book.specs.Book.{Book, Event, Refusals, begun, step}
+use Rattle.microprogram.specs.Cycle.{ends_path, power_up}
+use Rattle.book.specs.Book.{Book, Event, Refusals, first_state, step}
 use Rattle.book.specs.Fit.{Fit}
 use Rattle.book.specs.Length.{length_of}
 use Rattle.paths.specs.Instant.{World, ticks}
 
 -- where the microprogram stands at an event: the row, and the flag that is up
-abbrev pub At : Event → ℕ → Option Fault → Type 0
-At Event.reset row flag = (row ≡ 0) ⊎ ((20 ≤ row) × (row ≤ 23))
-At (Event.exception c) row flag = ((row ≡ 17) ⊎ (row ≡ 19)) × (flag ≡ Some c)
-At Event.interrupt row flag = (row ≡ 18) × (flag ≡ None)
-At Event.run row flag = (row ≡ 16) × (flag ≡ None)
+abbrev pub AtEvent : Event → ℕ → Option Fault → Type 0
+AtEvent Event.reset row flag = (row ≡ 0) ⊎ ((20 ≤ row) × (row ≤ 23))
+AtEvent (Event.exception c) row flag = ((row ≡ 17) ⊎ (row ≡ 19)) × (flag ≡ Some c)
+AtEvent Event.interrupt row flag = (row ≡ 18) × (flag ≡ None)
+AtEvent Event.run row flag = (row ≡ 16) × (flag ≡ None)
 
 -- the world in which the microprogram stands at a state of the book
-abbrev pub stand : Book → ℕ → ℕ → Option Fault → World
-stand b dt row flag =
+abbrev pub world_at : Book → ℕ → ℕ → Option Fault → World
+world_at b dt row flag =
     record {
-      state = record { regs = b.regs; dt = dt; flag = flag; row = row; lines = b.lines; ledger = b.ledger };
+      state = record { regs = b.regs; dt = dt; flag = flag; row = row; sampled = b.sampled; ledger = b.ledger };
       bytes = b.bytes;
     }
 
@@ -28,23 +28,23 @@ pub record Stands (b : Book) (s : World) : Type 0 where
   pub dt : ℕ
   pub row : ℕ
   pub flag : Option Fault
-  pub at : At b.event row flag
-  pub is : s ≡ stand b dt row flag
+  pub at : AtEvent b.event row flag
+  pub is : s ≡ world_at b dt row flag
 
 -- at power-up the microprogram stands at the book's first state
 abbrev pub Begins : Type 0
-Begins = (bytes : ℕ → ℕ) → Stands (begun bytes) (record { state = powered; bytes = bytes })
+Begins = (bytes : ℕ → ℕ) → Stands (first_state bytes) (record { state = power_up; bytes = bytes })
 
 -- whether the cycle that a world is about to make ends a path
-abbrev pub ends_path : World → Bool
-ends_path s = ends (row_at s.state.row).sequencing
+abbrev pub world_ends_path : World → Bool
+world_ends_path s = ends_path (row_at s.state.row).sequencing
 
 -- a step of the book, walked by the microprogram: after exactly the book's length it stands at the book's next state,
 -- that last cycle ends a path, and none before it does
 pub record Walks (r : Refusals) (lines : ℕ) (b : Book) (s : World) : Type 0 where
   pub arrives : Stands (step r lines b) (ticks r lines (length_of b b.event) s)
-  pub going : (n : ℕ) → n + 1 < length_of b b.event → ends_path (ticks r lines n s) ≡ false
-  pub ending : (n : ℕ) → n + 1 ≡ length_of b b.event → ends_path (ticks r lines n s) ≡ true
+  pub going : (n : ℕ) → n + 1 < length_of b b.event → world_ends_path (ticks r lines n s) ≡ false
+  pub ending : (n : ℕ) → n + 1 ≡ length_of b b.event → world_ends_path (ticks r lines n s) ≡ true
 
 -- each step of the book is a path of rows: for any refused words, lines, state of the book and DT
 abbrev pub StepsArePaths : Type 0

@@ -31,8 +31,8 @@ at n name opx opy alu res adrw excp seq amic =
     record { address = n; name = name; fields = (opx, opy, alu, res, adrw, excp, seq, amic) }
 
 -- what an address holds that the listing leaves out: an illegal code, followed by row 15
-abbrev pub empty : Fields
-empty = (x.C0, y.C0, a.Sum, r.Nop, m.Nop, e.Ri, s.Next, 15)
+abbrev pub empty_fields : Fields
+empty_fields = (x.C0, y.C0, a.Sum, r.Nop, m.Nop, e.Ri, s.Next, 15)
 
 unfoldable pub listing : List Entry
 listing =
@@ -198,21 +198,21 @@ listing =
     ∷ []
 
 -- the rows from an address on, so many of them, with the entries that are left
-unfoldable pub laid : ℕ → ℕ → List Entry → List Fields
-laid zero n es = []
-laid (suc k) n [] = empty ∷ laid k (suc n) []
-laid (suc k) n (c ∷ es) =
-    elim (n == c.address) [ true ↦ c.fields ∷ laid k (suc n) es | false ↦ empty ∷ laid k (suc n) (c ∷ es) ]
+unfoldable pub laid_out : ℕ → ℕ → List Entry → List Fields
+laid_out zero n es = []
+laid_out (suc k) n [] = empty_fields ∷ laid_out k (suc n) []
+laid_out (suc k) n (c ∷ es) =
+    elim (n == c.address) [ true ↦ c.fields ∷ laid_out k (suc n) es | false ↦ empty_fields ∷ laid_out k (suc n) (c ∷ es) ]
 
 -- the 1,024 rows
 unfoldable pub rows : List Fields
-unfolding laid listing
-rows = laid 1024 0 listing
+unfolding laid_out listing
+rows = laid_out 1024 0 listing
 
-abbrev pub named : Fields → Row
-named f =
+abbrev pub row_of_fields : Fields → Row
+row_of_fields f =
     record { x = f.0; y = f.1; operation = f.2; destination = f.3; transfer = f.4; detection = f.5; sequencing = f.6; amic = f.7 }
 
 -- the row at an address
 abbrev pub row_at : ℕ → Row
-row_at n = named (slice_index_or rows n empty)
+row_at n = row_of_fields (slice_index_or rows n empty_fields)

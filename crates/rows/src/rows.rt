@@ -1,7 +1,7 @@
 //! The 1,024 rows of the microprogram.
 
 ghost use Rattle.std.specs.Prelude.{◌≡◌, slice_index_or};
-ghost use Rattle.rows.specs.Rows.{empty, row_at, rows};
+ghost use Rattle.rows.specs.Rows.{empty_fields, row_at, rows};
 
 use super::row::{
     Destination as R, Detection as E, OperandX as X, OperandY as Y, Row, Sequencing as S,
@@ -1203,7 +1203,7 @@ static ROWS: [Fields; 1024] = [
 
 /// The fields at an address; beyond the last row, an illegal code too.
 fn fields(address: u16) -> Fields
-    ensures { result ≡ slice_index_or rows address empty }
+    ensures { result ≡ slice_index_or rows address empty_fields }
 {
     ROWS.get(usize::from(address)).copied().unwrap_or(EMPTY)
 }
