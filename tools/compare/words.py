@@ -38,7 +38,7 @@ RUST = re.compile(
 
 
 def antt_words(text, line=1, column=0):
-    """The words of a text of antt, with no comments, and with no ';' that ends a record."""
+    """The words of a text of antt, with no comments, with no ';' that ends a record, and no '|' before a first case."""
     words, end, start = [], -1, -column
     begin = 0
     for found in ANTT.finditer(text):
@@ -50,7 +50,8 @@ def antt_words(text, line=1, column=0):
         if not it.startswith("--"):
             if it == "}" and words and words[-1].text == ";":
                 words.pop()
-            words.append(Raw(it.strip("«»") or it, line, found.start() - start, found.start() == end))
+            if not (it == "|" and words and words[-1].text == "["):
+                words.append(Raw(it.strip("«»") or it, line, found.start() - start, found.start() == end))
         end = found.end()
     return words
 
