@@ -4,10 +4,10 @@ ghost use Rattle.std.specs.Prelude.{◌≡◌, ◌+◌, ◌≤◌, length};
 ghost use Rattle.jobs.specs.Job.{text_lines_of};
 ghost use Rattle.jobs.specs.Limits.{max_job};
 
-use super::text_lines::TextLines;
 use super::fault::JobFault;
 use super::limits::MAX_JOB;
 use super::station::{Station, denial_reply};
+use super::text_lines::TextLines;
 use bus::memory::Bus;
 use bus::settle::settles_as_decided;
 use r3000::decided::cycles_as_decided;

@@ -156,6 +156,9 @@ impl<B: Bus> Station<B> {
             Ok(order) => self.do_order(order),
             Err(fault) => (self, Err(JobFault::Line(fault))),
         };
-        (station, end.unwrap_or_else(|fault| denial_reply(number, fault)))
+        (
+            station,
+            end.unwrap_or_else(|fault| denial_reply(number, fault)),
+        )
     }
 }

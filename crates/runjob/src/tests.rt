@@ -153,7 +153,10 @@ fn failures_as_errors(rt: HostRuntime) -> Result<(), Fail> {
     let error = Failure::Memory.into_error();
     assert_eq!(rt; format!(in heap; "{error}")?.as_str(), "out of memory");
     let error = Failure::Read(ErrorKind::TimedOut.into()).into_error();
-    assert_eq!(rt; format!(in heap; "{error}")?.as_str(), "cannot read the job");
+    assert_eq!(rt;
+        format!(in heap; "{error}")?.as_str(),
+        "cannot read the job"
+    );
     assert_eq!(rt;
         format!(in heap; "{error:#}")?.as_str(),
         "cannot read the job: timed out"

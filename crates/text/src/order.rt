@@ -24,10 +24,16 @@ impl TryFrom<u8> for Kind {
     ghost try_from_gives = { λ code r. r ≡ ok_or (kind_at code) Unknown };
 
     fn try_from(code: u8) -> Result<Kind, LineFault> {
-        [Kind::Load, Kind::Start, Kind::SetLines, Kind::Run, Kind::Show]
-            .into_iter()
-            .find(|kind| code == *kind as u8)
-            .ok_or(LineFault::Unknown)
+        [
+            Kind::Load,
+            Kind::Start,
+            Kind::SetLines,
+            Kind::Run,
+            Kind::Show,
+        ]
+        .into_iter()
+        .find(|kind| code == *kind as u8)
+        .ok_or(LineFault::Unknown)
     }
 }
 
