@@ -7,11 +7,10 @@ use Rattle.bus.specs.declared.request.Answer.{Answer}
 use Rattle.bus.specs.declared.request.Request.{Request}
 use Rattle.book.specs.Book.{Book, Refusals, step}
 use Rattle.paths.specs.Instant.{World, tick, ticks}
-use Rattle.microprogram.specs.Cycle.{State, advanced, asked, ends, powered}
+use Rattle.microprogram.specs.Cycle.{State, ends_path, power_up, state_after}
 use Rattle.book.specs.Length.{length_of}
 use Rattle.book.specs.Fit.{Fit}
-use Rattle.paths.specs.Path.{Stands, Walks, ends_path, stand}
-use Rattle.microprogram.specs.Cycle.{State, advanced, ends, powered}
+use Rattle.paths.specs.Path.{Stands, Walks, world_at, world_ends_path}
 use Rattle.r3000.specs.Counts.{report_after}
 use Rattle.r3000.specs.Cycle.{Cycle, next_request}
 use Rattle.r3000.specs.Machine.{History, Machine, core_at_power_up, no_history, current_row, with_lines}
@@ -24,20 +23,20 @@ use Rattle.rows.specs.Rows.{row_at}
 use Rattle.rows.specs.declared.row.Row.{Row}
 
 -- before a boundary a cycle does not depend on the lines
-no_choice : (w : Row) (l k : ℕ) (work : ℕ × Bool × Bool) (a : Option Answer) (c : State) → ends w.sequencing ≡ false
-    → advanced w l work a c ≡ advanced w k work a c
+no_choice : (w : Row) (l k : ℕ) (work : ℕ × Bool × Bool) (a : Option Answer) (c : State) → ends_path w.sequencing ≡ false
+    → state_after w l work a c ≡ state_after w k work a c
 no_choice w l k work a c e =
     ap₂ (λ row lines.
     record {
-      regs = (advanced w l work a c).regs;
-      dt = (advanced w l work a c).dt;
-      flag = (advanced w l work a c).flag;
+      regs = (state_after w l work a c).regs;
+      dt = (state_after w l work a c).dt;
+      flag = (state_after w l work a c).flag;
       row = row;
-      lines = lines;
-      ledger = (advanced w l work a c).ledger;
+      sampled = lines;
+      ledger = (state_after w l work a c).ledger;
     })
     (no_lines w.sequencing w.amic c.regs work.0 work.2 _ l k e)
-    (cond-false (ends w.sequencing) l c.lines e ∙ sym (cond-false (ends w.sequencing) k c.lines e))
+    (cond-false (ends_path w.sequencing) l c.sampled e ∙ sym (cond-false (ends_path w.sequencing) k c.sampled e))
 
 module _ (r : Refusals) where
   -- one more tick
@@ -47,7 +46,7 @@ module _ (r : Refusals) where
   ticks_more l (suc n) s = ticks_more l n (tick r l s)
 
   -- a tick that is no boundary does not depend on the lines
-  same_tick : (l k : ℕ) (s : World) → ends_path s ≡ false → tick r l s ≡ tick r k s
+  same_tick : (l k : ℕ) (s : World) → world_ends_path s ≡ false → tick r l s ≡ tick r k s
   unfolding tick
   same_tick l k s e =
       ap (λ t. record { state = t; bytes = (tick r l s).bytes }) (no_choice (row_at s.state.row) l k _ _ s.state e)
@@ -77,7 +76,7 @@ module _ {S : Type 0} {means : S → Meaning} {steps : S → Request → Answer 
       record {
         refuses = refl;
         fit = below.fits (means start).byte (keeps.sound start).bytes;
-        from = record { state = powered; bytes = (means start).byte };
+        from = record { state = power_up; bytes = (means start).byte };
         stands = below.begins (means start).byte;
         ticked = λ l. refl;
         short = omega arith;
@@ -134,13 +133,13 @@ module _ {S : Type 0} {means : S → Meaning} {steps : S → Request → Answer 
 
   -- whether this cycle ends it
   ending_here : (h : History) (c : Machine S) (w : OnTheWay h c)
-      → ends (current_row c.processor.state).sequencing
-      ≡ ends_path (ticks (refusals (means start)) c.processor.lines c.observed.report.place w.from)
-  ending_here h c w = ap ends_path (w.ticked c.processor.lines)
+      → ends_path (current_row c.processor.state).sequencing
+      ≡ world_ends_path (ticks (refusals (means start)) c.processor.lines c.observed.report.place w.from)
+  ending_here h c w = ap world_ends_path (w.ticked c.processor.lines)
 
   -- an unfrozen cycle within a step
   way_on : (h : History) (c d : Machine S) → Cycle steps c false d
-      → ends (current_row c.processor.state).sequencing ≡ false → OnTheWay h c
+      → ends_path (current_row c.processor.state).sequencing ≡ false → OnTheWay h c
       → OnTheWay (record { lines = h.lines; since = h.since + 1 }) d
   way_on h c d k e w =
       let n : ℕ = c.observed.report.place in
@@ -181,7 +180,7 @@ module _ {S : Type 0} {means : S → Meaning} {steps : S → Request → Answer 
 
   -- an unfrozen cycle that ends it: a boundary
   way_over : (h : History) (c d : Machine S) → Cycle steps c false d
-      → ends (current_row c.processor.state).sequencing ≡ true → OnTheWay h c
+      → ends_path (current_row c.processor.state).sequencing ≡ true → OnTheWay h c
       → OnTheWay (record { lines = c.processor.lines ∷ h.lines; since = 0 }) d
   unfolding ticks
   way_over h c d k e w =
@@ -240,9 +239,9 @@ module _ {S : Type 0} {means : S → Meaning} {steps : S → Request → Answer 
       → OnTheWay d.observed.history d
   way_cycle c d true k w = subst (λ h. OnTheWay h d) (sym (history_of k)) (way_frozen c.observed.history c d k w)
   way_cycle c d false k w =
-      subst (λ h. OnTheWay h d) (sym (history_of k)) (by (ends (current_row c.processor.state).sequencing) refl)
+      subst (λ h. OnTheWay h d) (sym (history_of k)) (by (ends_path (current_row c.processor.state).sequencing) refl)
     where
-      by : (e : Bool) → ends (current_row c.processor.state).sequencing ≡ e
+      by : (e : Bool) → ends_path (current_row c.processor.state).sequencing ≡ e
           → OnTheWay
           (cond {A = History} e (record { lines = c.processor.lines ∷ c.observed.history.lines; since = 0 })
           (record { lines = c.observed.history.lines; since = c.observed.history.since + 1 })) d
@@ -254,11 +253,11 @@ module _ {S : Type 0} {means : S → Meaning} {steps : S → Request → Answer 
       → Agrees (book h) c.processor.state (means c.pile)
   unfolding ticks
   agrees h c w z =
-      let same : world below.memory keeps c ≡ stand (book h) w.stands.dt w.stands.row w.stands.flag =
+      let same : world below.memory keeps c ≡ world_at (book h) w.stands.dt w.stands.row w.stands.flag =
       w.ticked 0 ∙ ap (λ n. ticks (refusals (means start)) 0 n w.from) z ∙ w.stands.is in
       record {
         regs = ap (λ s. s.state.regs) same;
-        lines = ap (λ s. s.state.lines) same;
+        lines = ap (λ s. s.state.sampled) same;
         ledger = ap (λ s. s.state.ledger) same;
         bytes = λ x. ap (λ s. s.bytes x) same;
       }

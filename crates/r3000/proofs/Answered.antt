@@ -8,8 +8,8 @@ use Rattle.bus.specs.Request.{access_of}
 use Rattle.bus.specs.declared.request.Answer.{Answer}
 use Rattle.bus.specs.declared.request.Answer.TheVariants.{Wait, BusError, Done}
 use Rattle.bus.specs.declared.request.Request.{Request}
-use Rattle.paths.specs.Instant.{StillKeeps, World, changed, still, tick}
-use Rattle.microprogram.specs.Cycle.{advanced, asked, worked}
+use Rattle.paths.specs.Instant.{StillKeeps, World, bytes_after, still_memory, tick}
+use Rattle.microprogram.specs.Cycle.{row_output, state_after}
 use Rattle.rows.specs.declared.row.Row.{Row}
 use Rattle.r3000.specs.Cycle.{Asks, Cycle, next_request, is_wait}
 use Rattle.r3000.specs.Machine.{Machine, current_row}
@@ -31,14 +31,14 @@ stalls m q = by (is_stalled m q) (is_refused m q) (done_word m q)
 
 -- the memory without waits that has the bytes and refused words of a meaning
 abbrev pub stilled : Meaning → Meaning
-stilled m = still (refusals m) m.byte
+stilled m = still_memory (refusals m) m.byte
 
 -- where a request is not stalled, answer and bytes are those of a memory without waits
 pub answers_still : (m : Meaning) (q : Request) → is_stalled m q ≡ false → answer m q ≡ answer (stilled m) q
 answers_still m q e = rw e
 
 pub bytes_still : StillKeeps → (m : Meaning) (q : Request) → is_stalled m q ≡ false → (x : ℕ)
-    → byte_after m q x ≡ changed (stilled m) (Some q) x
+    → byte_after m q x ≡ bytes_after (stilled m) (Some q) x
 bytes_still memory m q e x = (rw e) ∙ sym (memory (refusals m) m.byte q x)
 
 -- where it is stalled, the bytes stay
@@ -54,7 +54,7 @@ module _ {S : Type 0} {means : S → Meaning} {steps : S → Request → Answer 
     (keeps : Keeps means steps) where
   -- a request that was answered by something else than wait
   pub unfrozen : (s t : S) (o : Option Request) (a : Option Answer) → Asks steps s o a t → false ≡ is_wait a
-      → (a ≡ option_map (answer (stilled (means s))) o) × ((means t).byte ≡ changed (stilled (means s)) o)
+      → (a ≡ option_map (answer (stilled (means s))) o) × ((means t).byte ≡ bytes_after (stilled (means s)) o)
   unfrozen s t None a h e = (h.0, ap (λ p. (means p).byte) h.1)
   unfrozen s t (Some q) a h e = (
     h.1 ∙ ap Some (told.answered ∙ answers_still (means s) q free),
@@ -101,11 +101,11 @@ module _ {S : Type 0} {means : S → Meaning} {steps : S → Request → Answer 
   one_tick c d h =
       let w : Row = current_row c.processor.state in
       ap₂ (λ s b. record { state = s; bytes = b })
-      (state_of h ∙ ap (λ a. advanced w c.processor.lines (worked w c.processor.state) a c.processor.state) now.0)
+      (state_of h ∙ ap (λ a. state_after w c.processor.lines (row_output w c.processor.state) a c.processor.state) now.0)
       now.1
     where
       now : (h.answer ≡ option_map (answer (stilled (means c.pile))) (next_request c))
-          × ((means d.pile).byte ≡ changed (stilled (means c.pile)) (next_request c))
+          × ((means d.pile).byte ≡ bytes_after (stilled (means c.pile)) (next_request c))
       now = unfrozen c.pile d.pile (next_request c) h.answer h.asks h.freeze
 
   pub no_tick : (c d : Machine S) → Cycle steps c true d → world d ≡ world c

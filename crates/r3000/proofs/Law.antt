@@ -3,7 +3,7 @@ use Rattle.std.proofs.Common.{◌≡◌, Bool, true, false, Option, Some, refl, 
 use Rattle.bus.specs.Meaning.{Keeps, Meaning}
 use Rattle.bus.specs.declared.request.Answer.{Answer}
 use Rattle.bus.specs.declared.request.Request.{Request}
-use Rattle.microprogram.specs.Cycle.{worked}
+use Rattle.microprogram.specs.Cycle.{row_output}
 use Rattle.machine.specs.Registers.{reg}
 use Rattle.machine.specs.declared.fault.Fault.{Fault}
 use Rattle.r3000.specs.Cycle.{Cycle}
@@ -38,7 +38,7 @@ module _ {S : Type 0} {means : S → Meaning} {steps : S → Request → Answer 
   zero_cycle c d false k =
       ap (λ s. reg s.regs 0) (state_of k)
       ∙ zero_advanced (current_row c.processor.state) c.processor.lines
-      (worked (current_row c.processor.state) c.processor.state) k.answer c.processor.state
+      (row_output (current_row c.processor.state) c.processor.state) k.answer c.processor.state
 
   register_0 : (c : Machine S) → IsReached steps start c → reg c.processor.state.regs 0 ≡ 0
   register_0 c IsReached.power_up = refl

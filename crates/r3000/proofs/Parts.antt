@@ -2,16 +2,15 @@
 use Rattle.std.proofs.Common.{◌≡◌, Bool, cond, ap}
 use Rattle.bus.specs.declared.request.Answer.{Answer}
 use Rattle.bus.specs.declared.request.Request.{Request}
-use Rattle.microprogram.specs.Cycle.{State, advanced, worked}
+use Rattle.microprogram.specs.Cycle.{row_output, state_after}
 use Rattle.r3000.specs.Cycle.{Cycle}
-use Rattle.r3000.specs.Machine.{History, Machine, current_row, history_after, observed_after}
-use Rattle.r3000.specs.declared.report.Report.{Report}
+use Rattle.r3000.specs.Machine.{Machine, current_row, history_after, observed_after}
 
 module _ {S : Type 0} {steps : S → Request → Answer → S → Type 0} {c d : Machine S} {frozen : Bool} where
   pub state_of : (k : Cycle steps c frozen d) → d.processor.state
       ≡ cond frozen c.processor.state
-      (advanced (current_row c.processor.state) c.processor.lines
-      (worked (current_row c.processor.state) c.processor.state)
+      (state_after (current_row c.processor.state) c.processor.lines
+      (row_output (current_row c.processor.state) c.processor.state)
       k.answer c.processor.state)
   state_of k = ap (λ m. m.processor.state) k.after
 

@@ -6,9 +6,8 @@ use Rattle.bus.specs.Meaning.{Keeps, Meaning, IsSound}
 use Rattle.bus.specs.declared.request.Access.{Access}
 use Rattle.bus.specs.declared.request.Answer.{Answer}
 use Rattle.bus.specs.declared.request.Request.{Request}
-use Rattle.microprogram.specs.Cycle.{State, access, asked, ends, requested}
-use Rattle.microprogram.specs.Bounds.{accesses, all, path_budget, successors, within}
-use Rattle.microprogram.specs.Cycle.{State, access, ends, requested}
+use Rattle.microprogram.specs.Cycle.{State, ends_path, request_of, row_access, unless_flagged}
+use Rattle.microprogram.specs.Bounds.{access_count, all, ends_within, path_budget, successors}
 use Rattle.machine.specs.Registers.{Regs}
 use Rattle.machine.specs.declared.fault.Fault.{Fault}
 use Rattle.r3000.specs.Cycle.{Cycle, next_request}
@@ -27,7 +26,7 @@ bound : (n : Meaning) → IsSound n → (x : Access) → n.waits x ≤ 1 * n.lon
 bound n h x = omega (arith, h.waits x)
 
 waiting_bound : (n : Meaning) → IsSound n → (flag : Option Fault) (g : Regs) (t : Transfer) (res : ℕ)
-    → waiting n (requested flag (access g t res)) ≤ accesses t * n.longest
+    → waiting n (unless_flagged flag (row_access g t res)) ≤ access_count t * n.longest
 waiting_bound n h (Some c) g t res = omega arith
 waiting_bound n h None g m.Nop res = omega arith
 waiting_bound n h None g m.If res = bound n h _
@@ -48,11 +47,11 @@ true_test false h = absurd h
 
 -- the accesses of the row at hand
 abbrev touches : State → ℕ
-touches c = accesses (current_row c).transfer
+touches c = access_count (current_row c).transfer
 
 -- the first row of an within path makes no more accesses than the path
-first : (rows touch : ℕ) (c : State) → T (within rows touch c.row) → touches c ≤ touch
-unfolding within
+first : (rows touch : ℕ) (c : State) → T (ends_within rows touch c.row) → touches c ≤ touch
+unfolding ends_within
 first zero touch c h = absurd h
 first (suc rows) touch c h = leb-true _ _ (true_test _ (left (leb (touches c) touch) _ h))
 
@@ -61,13 +60,13 @@ apart true b h e = absurd (true≢false e)
 apart false b h e = h
 
 -- and the rest of the path is one row shorter
-rest : (rows touch : ℕ) (c : State) → T (within rows touch c.row) → ends (current_row c).sequencing ≡ false
+rest : (rows touch : ℕ) (c : State) → T (ends_within rows touch c.row) → ends_path (current_row c).sequencing ≡ false
     → (n : ℕ) × (rows ≡ n + 1)
-    × T (all (within n (touch - touches c)) (successors (current_row c).sequencing (current_row c).amic))
-unfolding within
+    × T (all (ends_within n (touch - touches c)) (successors (current_row c).sequencing (current_row c).amic))
+unfolding ends_within
 rest zero touch c h e = absurd h
 rest (suc rows) touch c h e =
-    (rows, omega arith, apart (ends (current_row c).sequencing) _ (right (leb (touches c) touch) _ h) e)
+    (rows, omega arith, apart (ends_path (current_row c).sequencing) _ (right (leb (touches c) touch) _ h) e)
 
 module _ {S : Type 0} {means : S → Meaning} {steps : S → Request → Answer → S → Type 0} (below : Below)
     (keeps : Keeps means steps) (start : S) where
@@ -77,14 +76,14 @@ module _ {S : Type 0} {means : S → Meaning} {steps : S → Request → Answer 
     pub row : c.processor.state.row < 1024
     pub rows : ℕ
     pub touch : ℕ
-    pub path : T (within rows touch c.processor.state.row)
+    pub path : T (ends_within rows touch c.processor.state.row)
     pub near : since + rows
         + ((touch - touches c.processor.state) * (means start).longest + waiting (means c.pile) (next_request c)) ≤ 7
         + 2 * (means start).longest
 
   -- a row that is come to
   comes : (since : ℕ) (c : Machine S) → (means c.pile).longest ≡ (means start).longest → c.processor.state.row < 1024
-      → (rows touch : ℕ) → T (within rows touch c.processor.state.row)
+      → (rows touch : ℕ) → T (ends_within rows touch c.processor.state.row)
       → since + rows + touch * (means start).longest ≤ latest_boundary (means start) → Soon since c
   comes since c longest row rows touch path near =
       record {
@@ -142,29 +141,29 @@ module _ {S : Type 0} {means : S → Meaning} {steps : S → Request → Answer 
         row = subst (λ s. s.row < 1024) (sym same) near.row;
         rows = near.rows;
         touch = near.touch;
-        path = subst (λ s. T (within near.rows near.touch s.row)) (sym same) near.path;
+        path = subst (λ s. T (ends_within near.rows near.touch s.row)) (sym same) near.path;
         near =
             subst
             (λ s.
             since + 1 + near.rows
-            + ((near.touch - touches s) * (means start).longest + waiting (means d.pile) (asked (current_row s) s))
+            + ((near.touch - touches s) * (means start).longest + waiting (means d.pile) (request_of (current_row s) s))
             ≤ latest_boundary (means start)) (sym same)
             (omega (arith, near.near));
       }
 
   -- an unfrozen one goes on to the next row, or over a boundary
   soon_on : (since : ℕ) (c d : Machine S) → Cycle steps c false d
-      → ends (current_row c.processor.state).sequencing ≡ false → Soon since c → Soon (since + 1) d
+      → ends_path (current_row c.processor.state).sequencing ≡ false → Soon since c → Soon (since + 1) d
   soon_on since c d h e near = go (rest near.rows near.touch c.processor.state near.path e)
     where
       go : (n : ℕ) × (near.rows ≡ n + 1)
-          × T (all (within n (near.touch - touches c.processor.state))
+          × T (all (ends_within n (near.touch - touches c.processor.state))
           (successors (current_row c.processor.state).sequencing (current_row c.processor.state).amic))
           → Soon (since + 1) d
       go r =
           comes (since + 1) d (stays since c d false h near) (is_row since c d h near) r.0
           (near.touch - touches c.processor.state)
-          (next (within r.0 (near.touch - touches c.processor.state)) c d h r.2)
+          (next (ends_within r.0 (near.touch - touches c.processor.state)) c d h r.2)
           (omega (arith, near.near, r.1))
 
   soon_over : (since : ℕ) (c d : Machine S) → Cycle steps c false d → Soon since c → Soon 0 d
@@ -176,9 +175,9 @@ module _ {S : Type 0} {means : S → Meaning} {steps : S → Request → Answer 
   soon_cycle c d true k near =
       subst (λ h. Soon h.since d) (sym (history_of k)) (soon_frozen c.observed.history.since c d k near)
   soon_cycle c d false k near =
-      subst (λ h. Soon h.since d) (sym (history_of k)) (by (ends (current_row c.processor.state).sequencing) refl)
+      subst (λ h. Soon h.since d) (sym (history_of k)) (by (ends_path (current_row c.processor.state).sequencing) refl)
     where
-      by : (e : Bool) → ends (current_row c.processor.state).sequencing ≡ e
+      by : (e : Bool) → ends_path (current_row c.processor.state).sequencing ≡ e
           → Soon
           (cond {A = History} e (record { lines = c.processor.lines ∷ c.observed.history.lines; since = 0 })
           (record { lines = c.observed.history.lines; since = c.observed.history.since + 1 })).since d
@@ -197,9 +196,9 @@ module _ {S : Type 0} {means : S → Meaning} {steps : S → Request → Answer 
       }
 
   pub at_least_a_row : (since : ℕ) (c : Machine S) → Soon since c → since < latest_boundary (means start)
-  unfolding within
+  unfolding ends_within
   at_least_a_row since c near = by near.rows refl
     where
       by : (n : ℕ) → near.rows ≡ n → since < latest_boundary (means start)
-      by zero e = absurd (subst (λ n. T (within n near.touch c.processor.state.row)) e near.path)
+      by zero e = absurd (subst (λ n. T (ends_within n near.touch c.processor.state.row)) e near.path)
       by (suc n) e = omega (arith, near.near)

@@ -3,7 +3,7 @@
 use Rattle.std.proofs.Common.{◌≡◌, ℕ, zero, suc, Bool, false, T, List, [], ◌∷◌, refl, subst, Contains, arith}
 use Rattle.std.proofs.lemmas.Bool.{true≢false}
 use Rattle.microprogram.specs.Bounds.{RowsListed, all, successors}
-use Rattle.microprogram.specs.Cycle.{ends, following}
+use Rattle.microprogram.specs.Cycle.{ends_path, next_row}
 use Rattle.machine.specs.Registers.{Regs}
 use Rattle.r3000.proofs.Tests.{left, right}
 use Rattle.rows.specs.declared.row.Sequencing.{Sequencing}
@@ -17,13 +17,13 @@ each p (m ∷ ms) n (suc k, l, e) h = each p ms n (k, omega arith, e) (right (p 
 
 pub follows : RowsListed
     → (p : ℕ → Bool) (q : Sequencing) (amic : ℕ) (g : Regs) (res : ℕ) (zero? : Bool) (lines : ℕ) (flag : Bool)
-    → T (all p (successors q amic)) → T (p (following q amic g res zero? lines flag))
+    → T (all p (successors q amic)) → T (p (next_row q amic g res zero? lines flag))
 follows listed p q amic g res z lines flag h =
-    each p (successors q amic) (following q amic g res z lines flag) (listed q amic g res z lines flag) h
+    each p (successors q amic) (next_row q amic g res z lines flag) (listed q amic g res z lines flag) h
 
 -- only a boundary reads the lines
-pub no_lines : (q : Sequencing) (amic : ℕ) (g : Regs) (res : ℕ) (z : Bool) (flag : Bool) (l k : ℕ) → ends q ≡ false
-    → following q amic g res z l flag ≡ following q amic g res z k flag
+pub no_lines : (q : Sequencing) (amic : ℕ) (g : Regs) (res : ℕ) (z : Bool) (flag : Bool) (l k : ℕ) → ends_path q ≡ false
+    → next_row q amic g res z l flag ≡ next_row q amic g res z k flag
 no_lines s.Next amic g res z flag l k h = refl
 no_lines s.Decod amic g res z flag l k h = refl
 no_lines s.Spec amic g res z flag l k h = refl

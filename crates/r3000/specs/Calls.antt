@@ -5,7 +5,7 @@ use Rattle.bus.specs.Meaning.{Meaning, look_result}
 use Rattle.bus.specs.declared.request.Answer.{Answer}
 use Rattle.bus.specs.declared.request.Request.{Request}
 use Rattle.microprogram.specs.Cycle.{State}
-use Rattle.machine.specs.Ledger.{blank}
+use Rattle.machine.specs.Ledger.{blank_entry}
 use Rattle.machine.specs.declared.ledger.Entry.{Entry}
 use Rattle.r3000.specs.Core.{registers_in_order}
 use Rattle.r3000.specs.Cycle.{Cycle, Cycles}
@@ -56,7 +56,7 @@ register_reply n c = cond (nat_lt last_register n) (Err denial.Range) (Ok (slice
 
 -- ledger: the entry of one of the 16 codes
 abbrev pub ledger_reply : ℕ → State → Result Entry Denial
-ledger_reply n c = cond (nat_lt last_code n) (Err denial.Range) (Ok (slice_index_or c.ledger n blank))
+ledger_reply n c = cond (nat_lt last_code n) (Err denial.Range) (Ok (slice_index_or c.ledger n blank_entry))
 
 -- look: the byte at an address, unless its word is refused to reads
 abbrev pub look_reply : Meaning → ℕ → Result ℕ Denial

@@ -1,14 +1,14 @@
 -- What the code's core is to the relation, and the numbers of its registers. Assumes nothing.
 use Rattle.std.specs.Prelude.{ℕ, List, [], ◌∷◌, ◌++◌}
-use Rattle.microprogram.specs.Cycle.{State, seen}
-use Rattle.machine.specs.Interrupt.{causes}
+use Rattle.microprogram.specs.Cycle.{State, chip_state}
+use Rattle.machine.specs.Interrupt.{cr_with_lines}
 use Rattle.r3000.specs.Machine.{History, Machine}
 use Rattle.r3000.specs.declared.cpu.Core.{Core}
 use Rattle.r3000.specs.declared.processor.Processor.{Processor}
 
 -- a core's registers, flag, row and ledger, as the rules see them
 abbrev pub core_state : {B : Type 0} → Core B → State
-core_state c = seen c.processor.chip
+core_state c = chip_state c.processor.chip
 
 -- the pile that a core owns
 abbrev pub pile_of : {B : Type 0} → Core B → B
@@ -18,7 +18,7 @@ pile_of c = c.pile
 abbrev pub machine_of_parts : {B : Type 0} → History → Processor → B → Machine B
 machine_of_parts h p pile =
     record {
-      processor = record { state = seen p.chip; lines = p.lines };
+      processor = record { state = chip_state p.chip; lines = p.lines };
       pile = pile;
       observed = record { report = p.counts.report; history = h };
     }
@@ -31,5 +31,5 @@ machine_of h c = machine_of_parts h c.processor c.pile
 abbrev pub registers_in_order : State → List ℕ
 registers_in_order s =
     s.regs.general
-    ++ (s.regs.pc ∷ s.regs.hi ∷ s.regs.lo ∷ s.regs.sr ∷ causes s.lines s.regs.cr ∷ s.regs.epc ∷ s.regs.bar
+    ++ (s.regs.pc ∷ s.regs.hi ∷ s.regs.lo ∷ s.regs.sr ∷ cr_with_lines s.sampled s.regs.cr ∷ s.regs.epc ∷ s.regs.bar
     ∷ s.regs.ad ∷ s.regs.ir ∷ s.dt ∷ [])

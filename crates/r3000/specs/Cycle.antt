@@ -3,7 +3,7 @@ use Rattle.std.specs.Prelude.{◌≡◌, ℕ, zero, suc, Bool, true, false, cond
 use Rattle.bus.specs.declared.request.Answer.{Answer}
 use Rattle.bus.specs.declared.request.Answer.TheVariants.{Wait, BusError, Done}
 use Rattle.bus.specs.declared.request.Request.{Request}
-use Rattle.microprogram.specs.Cycle.{State, advanced, asked, worked}
+use Rattle.microprogram.specs.Cycle.{State, request_of, row_output, state_after}
 use Rattle.r3000.specs.Machine.{Machine, current_row, observed_after}
 
 -- how a pile goes on in a cycle: it is asked exactly where the cycle makes a request
@@ -28,7 +28,7 @@ core_after_cycle frozen a pile c =
           record
           c.processor {
             state = cond frozen s
-                (advanced (current_row s) c.processor.lines (worked (current_row s) s) a s);
+                (state_after (current_row s) c.processor.lines (row_output (current_row s) s) a s);
           };
       pile = pile;
       observed = observed_after c.processor frozen c.observed;
@@ -36,7 +36,7 @@ core_after_cycle frozen a pile c =
 
 -- the request that a core makes in its next cycle
 abbrev pub next_request : {S : Type 0} → Machine S → Option Request
-next_request c = asked (current_row c.processor.state) c.processor.state
+next_request c = request_of (current_row c.processor.state) c.processor.state
 
 -- one cycle from c to d
 pub record Cycle {S : Type 0} (steps : S → Request → Answer → S → Type 0)

@@ -1,6 +1,6 @@
 -- A core, as the rules see it. Assumes nothing.
 use Rattle.std.specs.Prelude.{ℕ, ◌+◌, Bool, cond, not, ◌&&◌, List, [], ◌∷◌}
-use Rattle.microprogram.specs.Cycle.{State, ends, powered}
+use Rattle.microprogram.specs.Cycle.{State, ends_path, power_up}
 use Rattle.r3000.specs.Counts.{report_after, zero_counts}
 use Rattle.r3000.specs.declared.report.Report.{Report}
 use Rattle.rows.specs.Rows.{row_at}
@@ -35,7 +35,7 @@ pub record Machine (S : Type 0) : Type 0 where
 abbrev pub core_at_power_up : {S : Type 0} → S → Machine S
 core_at_power_up pile =
     record {
-      processor = record { state = powered; lines = 0 };
+      processor = record { state = power_up; lines = 0 };
       pile = pile;
       observed = record { report = zero_counts; history = no_history };
     }
@@ -46,7 +46,7 @@ current_row c = row_at c.row
 
 -- a boundary is the end of an unfrozen cycle whose row ends a path
 abbrev pub is_boundary : State → Bool → Bool
-is_boundary c frozen = not frozen && ends (current_row c).sequencing
+is_boundary c frozen = not frozen && ends_path (current_row c).sequencing
 
 -- the history after a cycle: a boundary keeps the lines that stand, and the granted cycles are counted anew
 abbrev pub history_after : Cpu → Bool → History → History
@@ -58,7 +58,7 @@ history_after p frozen h =
 abbrev pub observed_after : Cpu → Bool → Observed → Observed
 observed_after p frozen o =
     record {
-      report = report_after frozen (ends (current_row p.state).sequencing) o.report;
+      report = report_after frozen (ends_path (current_row p.state).sequencing) o.report;
       history = history_after p frozen o.history;
     }
 

@@ -1,6 +1,6 @@
 -- What is promised of everything that is reached. Assumes nothing.
 use Rattle.std.specs.Prelude.{◌≡◌, ℕ, ◌+◌, ◌*◌, ◌<◌, List, [], ◌∷◌, length, Some}
-use Rattle.book.specs.Book.{Book, Refusals, begun, step}
+use Rattle.book.specs.Book.{Book, Refusals, first_state, step}
 use Rattle.book.specs.Length.{length_of}
 use Rattle.bus.specs.Meaning.{Meaning}
 use Rattle.bus.specs.declared.request.Answer.{Answer}
@@ -20,7 +20,7 @@ refusals m = record { unreadable = m.unreadable; unwritable = m.unwritable }
 
 -- the book over a memory, after a step for each boundary, each with the lines that stood there
 abbrev pub book_after : Meaning → List ℕ → Book
-book_after m [] = begun m.byte
+book_after m [] = first_state m.byte
 book_after m (l ∷ ls) = step (refusals m) l (book_after m ls)
 
 -- the book's lengths of these steps, together
@@ -31,7 +31,7 @@ total_length m (l ∷ ls) = total_length m ls + length_of (book_after m ls) (boo
 -- registers without DT, the lines at the last boundary, ledger, and the bytes at every address are the book's
 pub record Agrees (b : Book) (s : State) (m : Meaning) : Type 0 where
   pub regs : s.regs ≡ b.regs
-  pub lines : s.lines ≡ b.lines
+  pub lines : s.sampled ≡ b.sampled
   pub ledger : s.ledger ≡ b.ledger
   pub bytes : (address : ℕ) → m.byte address ≡ b.bytes address
 

@@ -107,7 +107,7 @@ impl<B: Bus> Core<B> {
             registers.hi,
             registers.lo,
             registers.sr,
-            read_cr(chip.lines, registers.cr),
+            read_cr(chip.sampled, registers.cr),
             registers.epc,
             registers.bar,
             registers.ad,

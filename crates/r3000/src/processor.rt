@@ -1,7 +1,7 @@
 //! A processor and its cycle.
 
 ghost use Rattle.std.specs.Prelude.{◌≡◌, ◌<◌};
-ghost use Rattle.microprogram.specs.Cycle.{powered, seen};
+ghost use Rattle.microprogram.specs.Cycle.{chip_state, power_up};
 ghost use Rattle.r3000.specs.Core.{machine_of_parts};
 ghost use Rattle.r3000.specs.Counts.{zero_counts};
 ghost use Rattle.r3000.specs.Cycle.{Asks, Cycle, is_wait};
@@ -12,7 +12,7 @@ use super::counts::Counts;
 use bus::memory::Bus;
 use bus::request::{Answer, Request};
 use microprogram::chip::Chip;
-use microprogram::sequencing::ends;
+use microprogram::sequencing::ends_path;
 use rows::rows::row;
 
 /// A core without its pile.
@@ -27,7 +27,7 @@ pub struct Processor {
 impl Processor {
     /// Power-up: registers, lines, ledger and counts zero, no flag, row 0.
     pub(crate) fn new() -> Processor
-        ensures state { seen result.chip ≡ powered }
+        ensures state { chip_state result.chip ≡ power_up }
         ensures lines { result.lines ≡ 0 }
         ensures report { result.counts.report ≡ zero_counts }
     {
@@ -54,7 +54,7 @@ impl Processor {
         if !frozen {
             self.chip.advance(row, self.lines, work, answer);
         }
-        self.counts.count(frozen, ends(row.sequencing));
+        self.counts.count(frozen, ends_path(row.sequencing));
         frozen
     }
 }

@@ -1,7 +1,7 @@
 use Rattle.std.proofs.Common.{rules, ◌≡◌, ℕ, zero, suc, ◌+◌, Bool, true, false, Ok, Err, refl, ap, add-one, arith}
 use Rattle.bus.specs.declared.request.Answer.{Answer}
 use Rattle.bus.specs.declared.request.Request.{Request}
-use Rattle.microprogram.specs.Cycle.{ends}
+use Rattle.microprogram.specs.Cycle.{ends_path}
 use Rattle.r3000.specs.Calls.{Runs, check_run}
 use Rattle.r3000.specs.Core.{machine_of, machine_of_parts}
 use Rattle.r3000.specs.Counts.{report_after}
@@ -26,7 +26,7 @@ as_many steps says (suc n) c d h =
       arith,
       as_many steps says n c h.0 h.2,
       ap (λ m. m.cycles) (report_of h.3),
-      one_more h.1 (ends (current_row h.0.processor.state).sequencing) h.0.observed.report,
+      one_more h.1 (ends_path (current_row h.0.processor.state).sequencing) h.0.observed.report,
     )
 
 pub returns-in_err-check_run : goal.returns-in_err-check_run
