@@ -1,7 +1,8 @@
 //! Interrupts, and what an entry and a return do to SR and CR.
 
 ghost use Rattle.std.specs.Prelude.{◌≡◌};
-ghost use Rattle.machine.specs.Interrupt.{code_of, cr_code, cr_on_entry, cr_with_lines, interrupting, resetting, sr_on_entry, sr_on_return};
+ghost use Rattle.machine.specs.Interrupt.{code_of, cr_code, cr_on_entry, cr_with_lines, interrupting, resetting};
+ghost use Rattle.machine.specs.Interrupt.{sr_on_entry, sr_on_return};
 
 use super::fault::Fault;
 

@@ -1,7 +1,8 @@
 //! The fields of an instruction.
 
 ghost use Rattle.std.specs.Prelude.{◌≡◌, ◌<◌};
-ghost use Rattle.machine.specs.Word.{branch_offset, function, jump_index, opcode, register_field, shift_amount, signed_immediate, system_number};
+ghost use Rattle.machine.specs.Word.{branch_offset, function, jump_index, opcode, register_field, shift_amount};
+ghost use Rattle.machine.specs.Word.{signed_immediate, system_number};
 
 /// The fields that name general registers, each by the lowest of its five bits.
 #[derive(Clone, Copy)]
