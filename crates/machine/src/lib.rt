@@ -4,6 +4,7 @@
 #![tactic(auto)]
 
 pub mod address;
+pub mod bits;
 pub mod fault;
 pub mod interrupt;
 pub mod law;
