@@ -13,7 +13,9 @@ record Few (n : ℕ) : Type 0 where
   most : n ≤ 7
 
 lasts : {n : ℕ} → T (leb 1 n && leb n 7) → Few n
-lasts {n} h = let both : (leb 1 n ≡ true) × (leb n 7 ≡ true) = and_parts _ _ (holds _ h) in record { some = omega (arith, leb-true 1 n both.0); most = leb-true n 7 both.1 }
+lasts {n} h =
+    let both : (leb 1 n ≡ true) × (leb n 7 ≡ true) =
+    and_parts _ _ (holds _ h) in record { some = omega (arith, leb-true 1 n both.0); most = leb-true n 7 both.1 }
   where
     holds : (b : Bool) → T b → b ≡ true
     holds true t = refl
@@ -28,7 +30,9 @@ pick true m n h k = h
 pick false m n h k = k
 
 moved_bound : (n : ℕ) → Few (system_move_length n)
-moved_bound n = pick (eqb n 8) _ _ (lasts tt) (pick (eqb n 12) _ _ (lasts tt) (pick (eqb n 13) _ _ (lasts tt) (pick (eqb n 14) _ _ (lasts tt) (lasts tt))))
+moved_bound n =
+    pick (eqb n 8) _ _ (lasts tt)
+    (pick (eqb n 12) _ _ (lasts tt) (pick (eqb n 13) _ _ (lasts tt) (pick (eqb n 14) _ _ (lasts tt) (lasts tt))))
 
 long_bound : (i : Instruction) (g : Regs) → Few (instruction_length i g)
 long_bound (Instruction.shift_fixed op) g = lasts tt
@@ -89,4 +93,9 @@ linking =
 
 pub longest : LongestStep 7
 unfolding linking
-longest = record { some = λ b v. (bound b v).some; bounded = λ b v. (bound b v).most; reached = (linking, Event.run, refl) }
+longest =
+    record {
+      some = λ b v. (bound b v).some;
+      bounded = λ b v. (bound b v).most;
+      reached = (linking, Event.run, refl);
+    }

@@ -37,8 +37,10 @@ pub record Worked (w : WorkedCases) : Type 0 where
   pub add_code : w.add_code ≡ cr_code (twice nothing_refused (about_to_run 0x00221820 0 0x7FFFFFFF 1 0)).regs.cr
   pub add_bar : w.add_bar ≡ (twice nothing_refused (about_to_run 0x00221820 0 0x7FFFFFFF 1 0)).regs.bar
   -- DIV of 80000000 by FFFFFFFF
-  pub least_quotient : w.least_quotient ≡ (once nothing_refused (about_to_run 0x0022001A 0 0x80000000 0xFFFFFFFF 0)).regs.lo
-  pub least_remainder : w.least_remainder ≡ (once nothing_refused (about_to_run 0x0022001A 0 0x80000000 0xFFFFFFFF 0)).regs.hi
+  pub least_quotient :
+      w.least_quotient ≡ (once nothing_refused (about_to_run 0x0022001A 0 0x80000000 0xFFFFFFFF 0)).regs.lo
+  pub least_remainder :
+      w.least_remainder ≡ (once nothing_refused (about_to_run 0x0022001A 0 0x80000000 0xFFFFFFFF 0)).regs.hi
   -- DIV of -7 by 2 cuts toward zero
   pub odd_quotient : w.odd_quotient ≡ (once nothing_refused (about_to_run 0x0022001A 0 0xFFFFFFF9 2 0)).regs.lo
   pub odd_remainder : w.odd_remainder ≡ (once nothing_refused (about_to_run 0x0022001A 0 0xFFFFFFF9 2 0)).regs.hi
@@ -48,8 +50,11 @@ pub record Worked (w : WorkedCases) : Type 0 where
   -- JALR at 80000100 whose rd is its rs reads the link that it has just written
   pub link_first : w.link_first ≡ (once nothing_refused (about_to_run 0x00200809 0x80000100 0x1000 0 0)).regs.pc
   -- SR 00000401, IT0 up at the boundary before PC 80000200: the entry saves PC itself
-  pub interrupt_epc : w.interrupt_epc ≡ (step nothing_refused 0 (step nothing_refused 1 (about_to_run 0 0x800001FC 0 0 0x401))).regs.epc
-  pub interrupt_sr : w.interrupt_sr ≡ (step nothing_refused 0 (step nothing_refused 1 (about_to_run 0 0x800001FC 0 0 0x401))).regs.sr
+  pub interrupt_epc :
+      w.interrupt_epc
+      ≡ (step nothing_refused 0 (step nothing_refused 1 (about_to_run 0 0x800001FC 0 0 0x401))).regs.epc
+  pub interrupt_sr :
+      w.interrupt_sr ≡ (step nothing_refused 0 (step nothing_refused 1 (about_to_run 0 0x800001FC 0 0 0x401))).regs.sr
   -- a fetch that is refused at 80004000
   pub fetch_epc : w.fetch_epc ≡ (twice word_refused (about_to_run 0 0x80003FFC 0 0 0)).regs.epc
   pub fetch_code : w.fetch_code ≡ cr_code (twice word_refused (about_to_run 0 0x80003FFC 0 0 0)).regs.cr

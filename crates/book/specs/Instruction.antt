@@ -124,7 +124,10 @@ abbrev pub system_instruction : ℕ → Instruction
 system_instruction ir =
     elim (bit 25 ir) [
       | true ↦ return_from_exception
-      | false ↦ elim (bit 23 ir) [ true ↦ move_to_system (system_number ir) | false ↦ move_from_system (system_number ir) ]
+      | false ↦ elim (bit 23 ir) [
+        | true ↦ move_to_system (system_number ir)
+        | false ↦ move_from_system (system_number ir)
+      ]
     ]
 
 -- by IR bits 31 to 26

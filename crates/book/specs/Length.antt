@@ -2,8 +2,8 @@
 use Rattle.std.specs.Prelude.{◌≡◌, ℕ, ◌<◌, ◌≤◌, cond, not, [], ◌∷◌, pos, ◌==◌, int_le, int_lt}
 use Rattle.machine.specs.Operation.{integer_of}
 use Rattle.machine.specs.Registers.{Regs, reg}
-use Rattle.machine.specs.Word.{rs, rt}
-use Rattle.book.specs.Book.{Book, Event, pc_risen, with_link}
+use Rattle.machine.specs.Word.{rs}
+use Rattle.book.specs.Book.{Book, Event, pc_risen, rs_value, rt_value, with_link}
 use Rattle.book.specs.Instruction.{Instruction, decoded, table_entry}
 
 -- a move of a system register that does not exist takes one cycle more
@@ -27,14 +27,18 @@ instruction_length Instruction.system_call g = 4
 instruction_length Instruction.breakpoint g = 4
 instruction_length Instruction.jump g = 4
 instruction_length Instruction.jump_link g = 5
-instruction_length Instruction.branch_equal g = cond (reg g (rs g.ir) == reg g (rt g.ir)) 6 4
-instruction_length Instruction.branch_unequal g = cond (not (reg g (rs g.ir) == reg g (rt g.ir))) 6 4
-instruction_length Instruction.branch_not_above g = cond (int_le (integer_of (reg g (rs g.ir))) (pos 0)) 5 3
-instruction_length Instruction.branch_above g = cond (int_lt (pos 0) (integer_of (reg g (rs g.ir)))) 5 3
+instruction_length Instruction.branch_equal g = cond (rs_value g == rt_value g) 6 4
+instruction_length Instruction.branch_unequal g = cond (not (rs_value g == rt_value g)) 6 4
+instruction_length Instruction.branch_not_above g = cond (int_le (integer_of (rs_value g)) (pos 0)) 5 3
+instruction_length Instruction.branch_above g = cond (int_lt (pos 0) (integer_of (rs_value g))) 5 3
 instruction_length (Instruction.branch_below link) g =
-    cond link (cond (int_lt (integer_of (reg (with_link link g) (rs g.ir))) (pos 0)) 7 5) (cond (int_lt (integer_of (reg (with_link link g) (rs g.ir))) (pos 0)) 6 4)
+    cond link
+    (cond (int_lt (integer_of (reg (with_link link g) (rs g.ir))) (pos 0)) 7 5)
+    (cond (int_lt (integer_of (reg (with_link link g) (rs g.ir))) (pos 0)) 6 4)
 instruction_length (Instruction.branch_not_below link) g =
-    cond link (cond (int_le (pos 0) (integer_of (reg (with_link link g) (rs g.ir)))) 7 5) (cond (int_le (pos 0) (integer_of (reg (with_link link g) (rs g.ir)))) 6 4)
+    cond link
+    (cond (int_le (pos 0) (integer_of (reg (with_link link g) (rs g.ir)))) 7 5)
+    (cond (int_le (pos 0) (integer_of (reg (with_link link g) (rs g.ir)))) 6 4)
 instruction_length Instruction.add_immediate g = 4
 instruction_length (Instruction.compute_signed op) g = 3
 instruction_length (Instruction.compute_plain op) g = 3

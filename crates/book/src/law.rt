@@ -7,8 +7,8 @@ ghost use Rattle.book.specs.Length.{LongestStep};
 
 use machine::law::words_stay_words;
 
-/// The most cycles that a step of the book takes. The book begins with words in its registers and bytes in its memory, and
-/// every step keeps that.
+/// The most cycles that a step of the book takes. The book begins with words in its registers and bytes in its memory,
+/// and every step keeps that.
 pub fn longest_step() -> u8
     ensures begins { BeginsFit }
     ensures words { StepsFit }

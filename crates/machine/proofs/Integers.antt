@@ -1,5 +1,6 @@
 -- Words and the integers that they stand for. Assumes nothing.
-use Rattle.std.proofs.Common.{◌≡◌, ℕ, zero, suc, ◌*◌, ◌/◌, ◌%◌, ◌^◌, ◌<◌, ◌≤◌, ℤ, pos, negsuc, ◌-ℤ◌, ◌*ℤ◌, neg_ℤ, sym, refl, ap, ◌∙◌, zero-mul, arith, w32, w64, SFits, of_z}
+use Rattle.std.proofs.Common.{◌≡◌, ℕ, zero, suc, ◌*◌, ◌/◌, ◌%◌, ◌^◌, ◌<◌, ◌≤◌, ℤ, pos, negsuc, ◌-ℤ◌, ◌*ℤ◌, neg_ℤ, sym}
+use Rattle.std.proofs.Common.{refl, ap, ◌∙◌, zero-mul, arith, w32, w64, SFits, of_z}
 use lib.Signed.{mag, quot_z, rem_z}
 use Rattle.std.proofs.lemmas.Nat.{div-add-mod', mul-le}
 use Rattle.std.proofs.lemmas.Int.{ints, of_z-to_z, wrapping_mul-bits}
@@ -34,10 +35,22 @@ mag-neg (suc n) = omega arith
 
 -- a product of two integers of 32 bits has at most 64
 pub product_fits : (a b : ℤ) → mag a < 2 ^ 31 → mag b < 2 ^ 31 → SFits w64 (a *ℤ b)
-product_fits (pos a) (pos b) p q = record { sfits = omega (arith, mul-le a b (2 ^ 31) (2 ^ 31) (omega arith) (omega arith)) }
-product_fits (pos a) (negsuc b) p q = record { sfits = omega (arith, mag-neg (a * suc b), mul-le a (suc b) (2 ^ 31) (2 ^ 31) (omega arith) (omega arith)) }
-product_fits (negsuc a) (pos b) p q = record { sfits = omega (arith, mag-neg (suc a * b), mul-le (suc a) b (2 ^ 31) (2 ^ 31) (omega arith) (omega arith)) }
-product_fits (negsuc a) (negsuc b) p q = record { sfits = omega (arith, mul-le (suc a) (suc b) (2 ^ 31) (2 ^ 31) (omega arith) (omega arith)) }
+product_fits (pos a) (pos b) p q =
+    record {
+      sfits = omega (arith, mul-le a b (2 ^ 31) (2 ^ 31) (omega arith) (omega arith));
+    }
+product_fits (pos a) (negsuc b) p q =
+    record {
+      sfits = omega (arith, mag-neg (a * suc b), mul-le a (suc b) (2 ^ 31) (2 ^ 31) (omega arith) (omega arith));
+    }
+product_fits (negsuc a) (pos b) p q =
+    record {
+      sfits = omega (arith, mag-neg (suc a * b), mul-le (suc a) b (2 ^ 31) (2 ^ 31) (omega arith) (omega arith));
+    }
+product_fits (negsuc a) (negsuc b) p q =
+    record {
+      sfits = omega (arith, mul-le (suc a) (suc b) (2 ^ 31) (2 ^ 31) (omega arith) (omega arith));
+    }
 
 neg_times_neg : (q b : ℕ) → neg_ℤ (pos q) *ℤ negsuc b ≡ pos (q * suc b)
 neg_times_neg zero b = rw zero-mul

@@ -1,2 +1,3 @@
 pub mod Integers
+mod Masks
 mod Words

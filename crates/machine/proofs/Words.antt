@@ -1,13 +1,13 @@
 -- What is written into registers are words. Assumes nothing.
-use Rattle.std.proofs.Common.{ℕ, zero, suc, ◌+◌, ◌-◌, ◌*◌, ◌/◌, ◌%◌, ◌^◌, ◌<◌, Bool, true, false, cond, eqb, ltb, List, [], ◌∷◌, get_or, set, ℤ, pos, negsuc, div-le_self, arith}
-use lib.Bits.{bit_or}
+use Rattle.std.proofs.Common.{ℕ, zero, suc, ◌+◌, ◌-◌, ◌*◌, ◌/◌, ◌%◌, ◌^◌, ◌<◌, Bool, true, false, cond, eqb, ltb, List}
+use Rattle.std.proofs.Common.{[], ◌∷◌, get_or, set, ℤ, pos, negsuc, div-le_self, arith}
 use Rattle.std.proofs.lemmas.Bool.{cond_both}
 use Rattle.std.proofs.lemmas.Nat.{and_le_l, div_below, mul-lt, or_lt, shr_le, xor_lt}
 use Rattle.machine.specs.Fault.{code}
 use Rattle.machine.specs.Interrupt.{cr_with_lines}
 use Rattle.machine.specs.Operation.{one_if, residue, result_of}
 use Rattle.machine.specs.Registers.{Regs, reg, with_register}
-use Rattle.machine.specs.Word.{immediate, jump_index, signed_immediate}
+use Rattle.machine.specs.Word.{immediate, jump_address, jump_index, signed_immediate}
 use Rattle.machine.specs.Words.{WordsStayWords}
 use Rattle.machine.specs.declared.fault.Fault.{Fault}
 use Rattle.machine.specs.declared.operation.Operation.{Operation}
@@ -42,14 +42,16 @@ mod_below : (n : ℕ) → n % 2 ^ 32 < 2 ^ 32
 mod_below n = omega arith
 
 -- a word written into a list of words leaves it one
-get_or-set_small : (l : List ℕ) (i j v : ℕ) → v < 2 ^ 32 → ((n : ℕ) → get_or l n 0 < 2 ^ 32) → get_or (set l i v) j 0 < 2 ^ 32
+get_or-set_small : (l : List ℕ) (i j v : ℕ) → v < 2 ^ 32 → ((n : ℕ) → get_or l n 0 < 2 ^ 32)
+    → get_or (set l i v) j 0 < 2 ^ 32
 get_or-set_small [] i j v small h = h j
 get_or-set_small (c ∷ l) zero zero v small h = small
 get_or-set_small (c ∷ l) zero (suc j) v small h = h (suc j)
 get_or-set_small (c ∷ l) (suc i) zero v small h = h zero
 get_or-set_small (c ∷ l) (suc i) (suc j) v small h = get_or-set_small l i j v small (λ n. h (suc n))
 
-put_if : (l : List ℕ) (i j v : ℕ) → v < 2 ^ 32 → ((n : ℕ) → get_or l n 0 < 2 ^ 32) → (z : Bool) → get_or (cond z l (set l i v)) j 0 < 2 ^ 32
+put_if : (l : List ℕ) (i j v : ℕ) → v < 2 ^ 32 → ((n : ℕ) → get_or l n 0 < 2 ^ 32) → (z : Bool)
+    → get_or (cond z l (set l i v)) j 0 < 2 ^ 32
 put_if l i j v small h true = h j
 put_if l i j v small h false = get_or-set_small l i j v small h
 
@@ -87,10 +89,11 @@ result_small Dsr x y p q = pick (λ n. n < 2 ^ 32) (eqb y 0) p (residue_below _ 
 
 extended_small : (ir : ℕ) → signed_immediate ir < 2 ^ 32
 extended_small ir =
-    cond_both (ltb (immediate ir) (2 ^ 15)) (immediate ir) (immediate ir + (2 ^ 32 - 2 ^ 16)) (λ n. n < 2 ^ 32) (λ t. omega arith) (λ t. omega arith)
+    cond_both (ltb (immediate ir) (2 ^ 15)) (immediate ir) (immediate ir + (2 ^ 32 - 2 ^ 16)) (λ n. n < 2 ^ 32)
+    (λ t. omega arith) (λ t. omega arith)
 
 -- the target of a jump is a word
-joined_small : (pc ir : ℕ) → pc < 2 ^ 32 → bit_or (pc / 2 ^ 28 * 2 ^ 28) (jump_index ir) < 2 ^ 32
+joined_small : (pc ir : ℕ) → pc < 2 ^ 32 → jump_address pc ir < 2 ^ 32
 joined_small pc ir h = or_lt 32 (pc / 2 ^ 28 * 2 ^ 28) (jump_index ir) (omega arith) (omega arith)
 
 causes_small : (lines cr : ℕ) → cr < 2 ^ 32 → cr_with_lines lines cr < 2 ^ 32

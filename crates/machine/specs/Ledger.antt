@@ -10,7 +10,11 @@ blank_ledger = replicate 16 blank_entry
 
 -- one entry more of a code; counts are numbers of 64 bits, and wrap
 abbrev pub next_entry : List Entry → ℕ → ℕ → Entry
-next_entry ledger code epc = record { count = ((slice_index_or ledger code blank_entry).count + 1) % 2 ^ 64; epc = epc }
+next_entry ledger code epc =
+    record {
+      count = ((slice_index_or ledger code blank_entry).count + 1) % 2 ^ 64;
+      epc = epc;
+    }
 
 abbrev pub with_entry : ℕ → ℕ → List Entry → List Entry
 with_entry code epc ledger = slice_set ledger code (next_entry ledger code epc)

@@ -1,5 +1,6 @@
 -- The operation box, in arithmetic on numbers. Assumes nothing.
-use Rattle.std.specs.Prelude.{ℕ, ◌+◌, ◌-◌, ◌*◌, ◌/◌, ◌%◌, ◌^◌, Bool, false, cond, not, ℤ, pos, ◌+ℤ◌, ◌-ℤ◌, ◌*ℤ◌, ◌==◌, bit_and, bit_or, bit_xor, int_div, int_lt, nat_lt, unsigned_abs}
+use Rattle.std.specs.Prelude.{ℕ, ◌+◌, ◌-◌, ◌*◌, ◌/◌, ◌%◌, ◌^◌, Bool, false, cond, not, ℤ, pos, ◌+ℤ◌, ◌-ℤ◌, ◌*ℤ◌, ◌==◌}
+use Rattle.std.specs.Prelude.{bit_and, bit_or, bit_xor, int_div, int_lt, nat_lt, unsigned_abs}
 use Rattle.std.specs.Int.Signed.{mag, shr_z}
 use Rattle.std.specs.Int.{cast_signed, int_rem_euclid, w32}
 use Rattle.machine.specs.declared.operation.Operation.{Operation}

@@ -17,11 +17,35 @@ pub record Regs : Type 0 where
 
 -- what the code's record holds of them
 abbrev pub regs_of : Registers → Regs
-regs_of g = record { general = g.general; pc = g.pc; hi = g.hi; lo = g.lo; sr = g.sr; cr = g.cr; epc = g.epc; bar = g.bar; ad = g.ad; ir = g.ir }
+regs_of g =
+    record {
+      general = g.general;
+      pc = g.pc;
+      hi = g.hi;
+      lo = g.lo;
+      sr = g.sr;
+      cr = g.cr;
+      epc = g.epc;
+      bar = g.bar;
+      ad = g.ad;
+      ir = g.ir;
+    }
 
 -- all registers zero
 abbrev pub zero_regs : Regs
-zero_regs = record { general = replicate 32 0; pc = 0; hi = 0; lo = 0; sr = 0; cr = 0; epc = 0; bar = 0; ad = 0; ir = 0 }
+zero_regs =
+    record {
+      general = replicate 32 0;
+      pc = 0;
+      hi = 0;
+      lo = 0;
+      sr = 0;
+      cr = 0;
+      epc = 0;
+      bar = 0;
+      ad = 0;
+      ir = 0;
+    }
 
 -- a general register
 abbrev pub reg : Regs → ℕ → ℕ

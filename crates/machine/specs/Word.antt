@@ -1,5 +1,5 @@
 -- Bits and fields of words. Assumes nothing.
-use Rattle.std.specs.Prelude.{ℕ, ◌+◌, ◌-◌, ◌*◌, ◌/◌, ◌%◌, ◌^◌, Bool, cond, ◌==◌, nat_lt}
+use Rattle.std.specs.Prelude.{ℕ, ◌+◌, ◌-◌, ◌*◌, ◌/◌, ◌%◌, ◌^◌, Bool, cond, ◌==◌, bit_or, nat_lt}
 use Rattle.machine.specs.declared.word.Field.{Field}
 use Rattle.machine.specs.declared.word.Field.TheVariants.{Rs, Rt, Rd}
 
@@ -54,3 +54,7 @@ branch_offset ir = signed_immediate ir * 4 % 2 ^ 32
 -- four times the 26 low bits, as a jump has them
 abbrev pub jump_index : ℕ → ℕ
 jump_index ir = ir % 2 ^ 26 * 4
+
+-- the address to which a jump goes: it has the four high bits of PC
+abbrev pub jump_address : ℕ → ℕ → ℕ
+jump_address pc ir = bit_or (pc / 2 ^ 28 * 2 ^ 28) (jump_index ir)

@@ -3,18 +3,20 @@
 ghost use Rattle.std.specs.Prelude.{◌≡◌};
 ghost use Rattle.machine.specs.Address.{barred, misplaced, user_mode};
 
+use super::bits::{SR_USER, SYSTEM_ADDRESS};
+
 /// SR bit 1.
 pub fn is_user_mode(sr: u32) -> bool
     ensures { result ≡ user_mode sr }
 {
-    sr / 2 % 2 == 1
+    sr & SR_USER != 0
 }
 
 /// User mode may not use an address with bit 31.
 pub fn is_barred(sr: u32, address: u32) -> bool
     ensures { result ≡ barred sr address }
 {
-    is_user_mode(sr) && address / 0x8000_0000 % 2 == 1
+    is_user_mode(sr) && address & SYSTEM_ADDRESS != 0
 }
 
 /// An address that is no multiple of the size, or that is barred.

@@ -1,7 +1,8 @@
 //! The fields of an instruction.
 
 ghost use Rattle.std.specs.Prelude.{◌≡◌, ◌<◌};
-ghost use Rattle.machine.specs.Word.{branch_offset, function, jump_index, opcode, register_field, shift_amount, signed_immediate, system_number};
+ghost use Rattle.machine.specs.Word.{branch_offset, function, jump_index, opcode, register_field, shift_amount};
+ghost use Rattle.machine.specs.Word.{signed_immediate, system_number};
 
 /// The fields that name general registers, each by the lowest of its five bits.
 #[derive(Clone, Copy)]
@@ -17,7 +18,7 @@ impl Field {
         ensures is { result ≡ register_field self ir }
         ensures below { result < 32 }
     {
-        ((ir >> self as u32) % 32) as usize
+        (ir >> self as u32 & 0x1F) as usize
     }
 }
 
@@ -32,28 +33,28 @@ pub fn opcode(ir: u32) -> u16
 pub fn function(ir: u32) -> u16
     ensures { result ≡ function ir }
 {
-    (ir % 64) as u16
+    (ir & 0x3F) as u16
 }
 
 /// Bits 14–11: the number of a system register.
 pub fn system_number(ir: u32) -> u16
     ensures { result ≡ system_number ir }
 {
-    ((ir >> 11) % 16) as u16
+    (ir >> 11 & 0xF) as u16
 }
 
 /// Bits 10–6.
 pub fn shift_amount(ir: u32) -> u32
     ensures { result ≡ shift_amount ir }
 {
-    (ir >> 6) % 32
+    ir >> 6 & 0x1F
 }
 
 /// Bits 15–0, their sign extended.
 pub fn signed_immediate(ir: u32) -> u32
     ensures { result ≡ signed_immediate ir }
 {
-    let immediate = (ir % 65_536) as u16;
+    let immediate = (ir & 0xFFFF) as u16;
     i32::from(immediate.cast_signed()).cast_unsigned()
 }
 
@@ -61,12 +62,12 @@ pub fn signed_immediate(ir: u32) -> u32
 pub fn branch_offset(ir: u32) -> u32
     ensures { result ≡ branch_offset ir }
 {
-    signed_immediate(ir).wrapping_mul(4)
+    signed_immediate(ir) << 2
 }
 
 /// Four times bits 25–0.
 pub fn jump_index(ir: u32) -> u32
     ensures { result ≡ jump_index ir }
 {
-    ir % 0x400_0000 * 4
+    (ir & 0x3FF_FFFF) << 2
 }

@@ -1,8 +1,10 @@
 -- The one test over all rows, computed, and that no smaller budget passes it. Assumes nothing.
-use Rattle.std.proofs.Common.{◌≡◌, ℕ, zero, suc, ◌+◌, ◌-◌, ◌<◌, ◌≤◌, Bool, true, false, ◌&&◌, T, ltb, leb, List, [], ◌∷◌, ◌⊎◌, refl, subst, inl, inr, Contains, arith}
+use Rattle.std.proofs.Common.{◌≡◌, ℕ, zero, suc, ◌+◌, ◌-◌, ◌<◌, ◌≤◌, Bool, true, false, ◌&&◌, T, ltb, leb, List, []}
+use Rattle.std.proofs.Common.{◌∷◌, ◌⊎◌, refl, subst, inl, inr, Contains, arith}
 use Rattle.std.proofs.lemmas.Bool.{cases_eq, leb-true, true≢false}
 use Rattle.rows.specs.Rows.{row_at, rows}
-use Rattle.microprogram.specs.Bounds.{IsLeast, RowsEnd, access_count, all, ends_within, path_budget, row_passes, successors}
+use Rattle.microprogram.specs.Bounds.{IsLeast, RowsEnd, access_count, all, ends_within, path_budget, row_passes}
+use Rattle.microprogram.specs.Bounds.{successors}
 use Rattle.microprogram.specs.Cycle.{ends_path}
 use Rattle.microprogram.specs.declared.bounds.Budget.{Budget}
 use Rattle.microprogram.proofs.Successors.{among}
@@ -22,7 +24,9 @@ sound_below b (suc n) = row_passes b n && sound_below b n
 at : (b : Budget) (m n : ℕ) → n < m → T (sound_below b m) → T (row_passes b n)
 unfolding sound_below
 at b zero n h t = absurd (omega arith)
-at b (suc m) n h t = go (cases_eq n m) (left (row_passes b m) (sound_below b m) t) (λ l. at b m n l (right (row_passes b m) (sound_below b m) t))
+at b (suc m) n h t =
+    go (cases_eq n m) (left (row_passes b m) (sound_below b m) t)
+    (λ l. at b m n l (right (row_passes b m) (sound_below b m) t))
   where
     go : (n ≡ m) ⊎ (n ≡ m → ⊥) → T (row_passes b m) → (n < m → T (row_passes b n)) → T (row_passes b n)
     go (inl e) this those = rw e this
@@ -70,7 +74,8 @@ on zero touch n m h e c = absurd h
 on (suc k) touch n m h e c = (
   k,
   omega arith,
-  each (ends_within k (touch - access_count (row_at n).transfer)) (successors (row_at n).sequencing (row_at n).amic) m c
+  each (ends_within k (touch - access_count (row_at n).transfer)) (successors (row_at n).sequencing (row_at n).amic) m
+      c
       (apart (ends_path (row_at n).sequencing) _ (right (leb (access_count (row_at n).transfer) touch) _ h) e),
 )
 
@@ -81,7 +86,8 @@ passes b h n l = right (all (λ k. ltb k 1024) (successors (row_at n).sequencing
 seven : (b : Budget) → RowsEnd b → 7 ≤ b.rows
 unfolding rows
 seven b h =
-    let one = on b.rows b.accesses 16 260 (passes b h 16 (omega arith)) refl (among 256 4 64 1 (omega arith) 260 refl) in
+    let one =
+    on b.rows b.accesses 16 260 (passes b h 16 (omega arith)) refl (among 256 4 64 1 (omega arith) 260 refl) in
     let two = on one.0 _ 260 194 one.2 refl (among 192 1 4 2 (omega arith) 194 refl) in
     let three = on two.0 _ 194 192 two.2 refl (0, omega arith, refl) in
     let four = on three.0 _ 192 38 three.2 refl (among 36 1 4 2 (omega arith) 38 refl) in

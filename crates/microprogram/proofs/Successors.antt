@@ -1,5 +1,6 @@
 -- The row that follows is one of the listed successors. Assumes nothing.
-use Rattle.std.proofs.Common.{◌≡◌, ℕ, zero, suc, ◌+◌, ◌*◌, ◌/◌, ◌%◌, ◌<◌, Bool, true, false, refl, sym, suc-mul, Contains, arith}
+use Rattle.std.proofs.Common.{◌≡◌, ℕ, zero, suc, ◌+◌, ◌*◌, ◌/◌, ◌%◌, ◌<◌, Bool, true, false, refl, sym, suc-mul}
+use Rattle.std.proofs.Common.{Contains, arith}
 use Rattle.machine.specs.Interrupt.{interrupting, resetting}
 use Rattle.machine.specs.Operation.{one_if}
 use Rattle.machine.specs.Word.{bit, function, opcode, system_number}
@@ -23,17 +24,23 @@ pub rows_listed : RowsListed
 rows_listed s.Next amic g res z lines flag = (0, omega arith, refl)
 rows_listed s.Decod amic g res z lines flag = among 256 4 64 (opcode g.ir) (omega arith) _ refl
 rows_listed s.Spec amic g res z lines flag = among 512 4 64 (function g.ir) (omega arith) _ refl
-rows_listed s.Movc0 amic g res z lines flag = among (amic / 16 * 16) 1 16 (system_number g.ir) (omega arith) _ (omega arith)
+rows_listed s.Movc0 amic g res z lines flag =
+    among (amic / 16 * 16) 1 16 (system_number g.ir) (omega arith) _ (omega arith)
 rows_listed s.Rie amic g res z lines flag =
     among (amic / 8 * 8) 1 8 (one_if (resetting lines) * 4 + one_if (interrupting g.sr lines) * 2 + one_if flag)
     (omega (arith, one (resetting lines), one (interrupting g.sr lines), one flag)) _ (omega arith)
 rows_listed s.Copro amic g res z lines flag =
-    among (amic / 4 * 4) 1 4 (one_if (bit 25 g.ir) * 2 + one_if (bit 23 g.ir)) (omega (arith, one (bit 25 g.ir), one (bit 23 g.ir))) _ (omega arith)
+    among (amic / 4 * 4) 1 4 (one_if (bit 25 g.ir) * 2 + one_if (bit 23 g.ir))
+    (omega (arith, one (bit 25 g.ir), one (bit 23 g.ir))) _ (omega arith)
 rows_listed s.Bcond amic g res z lines flag =
-    among (amic / 4 * 4) 1 4 (one_if (bit 20 g.ir) * 2 + one_if (bit 16 g.ir)) (omega (arith, one (bit 20 g.ir), one (bit 16 g.ir))) _ (omega arith)
+    among (amic / 4 * 4) 1 4 (one_if (bit 20 g.ir) * 2 + one_if (bit 16 g.ir))
+    (omega (arith, one (bit 20 g.ir), one (bit 16 g.ir))) _ (omega arith)
 rows_listed s.Ad10 amic g res z lines flag = among (amic / 4 * 4) 1 4 (g.ad % 4) (omega arith) _ (omega arith)
-rows_listed s.Ad1 amic g res z lines flag = among (amic / 2 * 2) 1 2 (one_if (bit 1 g.ad)) (one (bit 1 g.ad)) _ (omega arith)
-rows_listed s.Unsi amic g res z lines flag = among (amic / 2 * 2) 1 2 (one_if (bit 28 g.ir)) (one (bit 28 g.ir)) _ (omega arith)
+rows_listed s.Ad1 amic g res z lines flag =
+    among (amic / 2 * 2) 1 2 (one_if (bit 1 g.ad)) (one (bit 1 g.ad)) _ (omega arith)
+rows_listed s.Unsi amic g res z lines flag =
+    among (amic / 2 * 2) 1 2 (one_if (bit 28 g.ir)) (one (bit 28 g.ir)) _ (omega arith)
 rows_listed s.Nul amic g res z lines flag = among (amic / 2 * 2) 1 2 (one_if z) (one z) _ (omega arith)
 rows_listed s.Sinul amic g res z lines flag =
-    among (amic / 4 * 4) 1 4 (one_if (bit 31 res) * 2 + one_if z) (omega (arith, one (bit 31 res), one z)) _ (omega arith)
+    among (amic / 4 * 4) 1 4 (one_if (bit 31 res) * 2 + one_if z) (omega (arith, one (bit 31 res), one z)) _
+    (omega arith)

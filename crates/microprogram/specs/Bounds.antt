@@ -1,5 +1,6 @@
 -- How the rows hang together: one test over all of them, and what it says. Assumes nothing.
-use Rattle.std.specs.Prelude.{ℕ, zero, suc, ◌+◌, ◌-◌, ◌*◌, ◌/◌, ◌<◌, ◌≤◌, Bool, true, false, ◌&&◌, T, List, [], ◌∷◌, nat_le, nat_lt, Contains}
+use Rattle.std.specs.Prelude.{ℕ, zero, suc, ◌+◌, ◌-◌, ◌*◌, ◌/◌, ◌<◌, ◌≤◌, Bool, true, false, ◌&&◌, T, List, [], ◌∷◌}
+use Rattle.std.specs.Prelude.{nat_le, nat_lt, Contains}
 use Rattle.machine.specs.Registers.{Regs}
 use Rattle.rows.specs.Rows.{row_at}
 use Rattle.rows.specs.declared.row.Sequencing.{Sequencing}
@@ -45,15 +46,17 @@ ends_within (suc rows) touch n =
     nat_le (access_count (row_at n).transfer) touch
     && elim (ends_path (row_at n).sequencing) [
       | true ↦ true
-      | false ↦ all (ends_within rows (touch - access_count (row_at n).transfer)) (successors (row_at n).sequencing (row_at n).amic)
+      | false ↦ all (ends_within rows (touch - access_count (row_at n).transfer))
+          (successors (row_at n).sequencing (row_at n).amic)
     ]
 
 -- the test of one row: its successors are rows, and every way on from it ends within the budget
 abbrev pub row_passes : Budget → ℕ → Bool
-row_passes b n = all (λ k. nat_lt k 1024) (successors (row_at n).sequencing (row_at n).amic) && ends_within b.rows b.accesses n
+row_passes b n =
+    all (λ k. nat_lt k 1024) (successors (row_at n).sequencing (row_at n).amic) && ends_within b.rows b.accesses n
 
--- from every row at most so many rows, itself counted, lead to one that ends a path; at most so many of them access memory;
--- and every row that is listed as its successor is one of the 1,024
+-- from every row at most so many rows, itself counted, lead to one that ends a path; at most so many of them access
+-- memory; and every row that is listed as its successor is one of the 1,024
 abbrev pub RowsEnd : Budget → Type 0
 RowsEnd b = (n : ℕ) → n < 1024 → T (row_passes b n)
 

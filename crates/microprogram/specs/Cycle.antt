@@ -1,16 +1,20 @@
 -- One cycle that is not frozen. Assumes nothing.
-use Rattle.std.specs.Prelude.{ℕ, ◌+◌, ◌*◌, ◌/◌, ◌%◌, ◌^◌, Bool, true, false, cond, not, ◌&&◌, ◌||◌, List, is_some, Some, None, Option}
+use Rattle.std.specs.Prelude.{ℕ, ◌+◌, ◌*◌, ◌/◌, ◌%◌, ◌^◌, Bool, true, false, cond, not, ◌&&◌, ◌||◌, List, is_some}
+use Rattle.std.specs.Prelude.{Some, None, Option}
 use Rattle.bus.specs.Request.{read_of, write_of}
 use Rattle.bus.specs.declared.request.Answer.{Answer}
 use Rattle.bus.specs.declared.request.Answer.TheVariants.{BusError, Done}
 use Rattle.bus.specs.declared.request.Request.{Request}
 use Rattle.bus.specs.declared.request.Width.TheVariants.{Word, Half, Byte}
 use Rattle.machine.specs.Address.{barred, misplaced, user_mode}
-use Rattle.machine.specs.Interrupt.{code_of, cr_code, cr_on_entry, cr_with_lines, interrupting, resetting, sr_on_entry, sr_on_return}
+use Rattle.machine.specs.Interrupt.{code_of, cr_code, cr_on_entry, cr_with_lines, interrupting, resetting, sr_on_entry}
+use Rattle.machine.specs.Interrupt.{sr_on_return}
 use Rattle.machine.specs.Ledger.{blank_ledger, with_entry}
 use Rattle.machine.specs.Operation.{box_output, one_if}
-use Rattle.machine.specs.Registers.{Regs, reg, regs_of, with_ad, with_bar, with_cr, with_epc, with_hi, with_ir, with_lo, with_pc, with_register, with_sr, zero_regs}
-use Rattle.machine.specs.Word.{bit, branch_offset, function, jump_index, opcode, rd, rs, rt, shift_amount, signed_immediate, system_number}
+use Rattle.machine.specs.Registers.{Regs, reg, regs_of, with_ad, with_bar, with_cr, with_epc, with_hi, with_ir}
+use Rattle.machine.specs.Registers.{with_lo, with_pc, with_register, with_sr, zero_regs}
+use Rattle.machine.specs.Word.{bit, branch_offset, function, jump_index, opcode, rd, rs, rt, shift_amount}
+use Rattle.machine.specs.Word.{signed_immediate, system_number}
 use Rattle.machine.specs.declared.fault.Fault.{Fault}
 use Rattle.machine.specs.declared.fault.Fault.TheVariants as f
 use Rattle.machine.specs.declared.ledger.Entry.{Entry}
@@ -127,7 +131,8 @@ abbrev pub may_write_ad : Detection → Option Fault → Bool
 may_write_ad d before = clears_flag d || not (is_some before)
 
 abbrev pub may_write_visible : Detection → Option Fault → Option Fault → Bool
-may_write_visible d before new = clears_flag d || (not (is_some before) && not (stops_its_cycle (fault_raised before new)))
+may_write_visible d before new =
+    clears_flag d || (not (is_some before) && not (stops_its_cycle (fault_raised before new)))
 
 -- the registers after a write of the result
 abbrev pub regs_with_result : Destination → Option Fault → ℕ → Regs → Regs
@@ -224,13 +229,17 @@ abbrev pub state_after : Row → ℕ → ℕ × Bool × Bool → Option Answer �
 state_after w lines k a c =
     let new : Option Fault = fault_found w.detection c.regs.sr k.0 k.1 a in
     let flag : Option Fault = flag_after w.detection c.flag new in
+    let writes : Bool = may_write w.destination w.detection c.flag new in
+    let enters : Bool = saves_pc w.destination w.x && may_write_visible w.detection c.flag new in
     record {
-      regs = with_ir (ir_after w.transfer a c.regs.ir) (cond (may_write w.destination w.detection c.flag new) (regs_with_result w.destination c.flag k.0 c.regs) c.regs);
+      regs =
+          with_ir (ir_after w.transfer a c.regs.ir)
+          (cond writes (regs_with_result w.destination c.flag k.0 c.regs) c.regs);
       dt = dt_after w.transfer a c.dt;
       flag = flag;
       row = next_row w.sequencing w.amic c.regs k.0 k.2 lines (is_some flag);
       sampled = cond (ends_path w.sequencing) lines c.sampled;
-      ledger = cond (saves_pc w.destination w.x && may_write_visible w.detection c.flag new) (with_entry (cr_code c.regs.cr) k.0 c.ledger) c.ledger;
+      ledger = cond enters (with_entry (cr_code c.regs.cr) k.0 c.ledger) c.ledger;
     }
 
 -- power-up: everything zero, no flag, row 0

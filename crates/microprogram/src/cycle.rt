@@ -2,7 +2,8 @@
 
 ghost use Rattle.std.specs.Prelude.{◌≡◌, ◌<◌};
 ghost use Rattle.machine.specs.Registers.{general_with, regs_of};
-ghost use Rattle.microprogram.specs.Cycle.{chip_state, power_up, regs_with_result, row_access, row_output, saves_pc, state_after, unless_flagged, word_brought};
+ghost use Rattle.microprogram.specs.Cycle.{chip_state, power_up, regs_with_result, row_access, row_output, saves_pc};
+ghost use Rattle.microprogram.specs.Cycle.{state_after, unless_flagged, word_brought};
 
 use super::chip::Chip;
 use super::faults::{Check, Evidence};
@@ -44,7 +45,8 @@ fn write_general(general: &mut [u32; 32], n: usize, value: u32)
 
 /// Writes the result to its destination.
 fn write(registers: &mut Registers, destination: Destination, res: u32)
-    ensures regs { regs_of registers.new ≡ regs_with_result destination registers.old.flag res (regs_of registers.old) }
+    ensures regs { regs_of registers.new
+        ≡ regs_with_result destination registers.old.flag res (regs_of registers.old) }
     ensures dt { registers.new.dt ≡ registers.old.dt }
     ensures flag { registers.new.flag ≡ registers.old.flag }
 {
@@ -116,7 +118,8 @@ impl Chip {
 
     /// The request that a row makes: none where a flag is up.
     pub fn request(&self, transfer: Transfer, res: u32) -> Option<Request>
-        ensures { result ≡ unless_flagged self.now.registers.flag (row_access (regs_of self.now.registers) transfer res) }
+        ensures { result
+            ≡ unless_flagged self.now.registers.flag (row_access (regs_of self.now.registers) transfer res) }
     {
         if self.registers.flag.is_some() {
             return None;

@@ -1,7 +1,8 @@
 //! Which fault a row finds, and what a fault stops.
 
 ghost use Rattle.std.specs.Prelude.{◌≡◌};
-ghost use Rattle.microprogram.specs.Cycle.{clears_flag, fault_found, flag_after, is_bus_error, may_write, may_write_visible, stops_its_cycle};
+ghost use Rattle.microprogram.specs.Cycle.{clears_flag, fault_found, flag_after, is_bus_error, may_write};
+ghost use Rattle.microprogram.specs.Cycle.{may_write_visible, stops_its_cycle};
 
 use bus::request::Answer;
 use machine::address::{is_barred, is_misplaced, is_user_mode};

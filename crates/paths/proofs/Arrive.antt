@@ -1,5 +1,6 @@
 -- From a path of rows to the step of the book that it walks. Assumes nothing.
-use Rattle.std.proofs.Common.{◌≡◌, ℕ, zero, suc, ◌+◌, ◌*◌, ◌<◌, Bool, true, false, cond, [], ◌∷◌, length, is_some, Some, None, Option, sym, refl, ap, ◌∙◌, inl, inr, arith}
+use Rattle.std.proofs.Common.{◌≡◌, ℕ, zero, suc, ◌+◌, ◌*◌, ◌<◌, Bool, true, false, cond, [], ◌∷◌, length, is_some}
+use Rattle.std.proofs.Common.{Some, None, Option, sym, refl, ap, ◌∙◌, inl, inr, arith}
 use Rattle.std.proofs.lemmas.Bool.{and_parts, not-true}
 use Rattle.machine.specs.Interrupt.{interrupting, resetting}
 use Rattle.machine.specs.Operation.{one_if}
@@ -14,7 +15,11 @@ use Rattle.paths.specs.Path.{AtEvent, Walks, world_at, world_ends_path}
 use Rattle.paths.proofs.Walk.{Leads, Reaches, Rows, only_last, walked}
 
 -- the row that a boundary chooses is that of the next event
-chosen : (reset irq : Bool) (flag : Option Fault) → AtEvent (cond reset Event.reset (elim flag [ Some c ↦ Event.exception c | None ↦ cond irq Event.interrupt Event.run ])) (16 + one_if reset * 4 + one_if irq * 2 + one_if (is_some flag)) flag
+chosen : (reset irq : Bool) (flag : Option Fault)
+    → AtEvent (cond reset Event.reset (elim flag [
+      | Some c ↦ Event.exception c
+      | None ↦ cond irq Event.interrupt Event.run
+    ])) (16 + one_if reset * 4 + one_if irq * 2 + one_if (is_some flag)) flag
 chosen true true (Some c) = inr (omega arith, omega arith)
 chosen true true None = inr (omega arith, omega arith)
 chosen true false (Some c) = inr (omega arith, omega arith)
@@ -25,14 +30,17 @@ chosen false false (Some c) = (inl refl, refl)
 chosen false false None = (refl, refl)
 
 module _ (deny : Refusals) (lines : ℕ) where
-  next_world : (n : ℕ) (w : Row) (ps : Rows) (s : World) → Leads deny lines ((n, w) ∷ ps) s → tick deny lines s ≡ world_after_row w deny lines s
+  next_world : (n : ℕ) (w : Row) (ps : Rows) (s : World) → Leads deny lines ((n, w) ∷ ps) s
+      → tick deny lines s ≡ world_after_row w deny lines s
   unfolding tick
   next_world n w ps s h = ap (λ k. world_after_row k deny lines s) (ap row_at h.0 ∙ h.1)
 
-  here : (n : ℕ) (w : Row) (ps : Rows) (s : World) → Leads deny lines ((n, w) ∷ ps) s → world_ends_path s ≡ ends_path w.sequencing
+  here : (n : ℕ) (w : Row) (ps : Rows) (s : World) → Leads deny lines ((n, w) ∷ ps) s
+      → world_ends_path s ≡ ends_path w.sequencing
   here n w ps s h = ap (λ k. ends_path k.sequencing) (ap row_at h.0 ∙ h.1)
 
-  goes_on : (ps : Rows) (s : World) → Leads deny lines ps s → only_last ps ≡ true → (n : ℕ) → n + 1 < length ps → world_ends_path (ticks deny lines n s) ≡ false
+  goes_on : (ps : Rows) (s : World) → Leads deny lines ps s → only_last ps ≡ true → (n : ℕ) → n + 1 < length ps
+      → world_ends_path (ticks deny lines n s) ≡ false
   unfolding ticks
   goes_on [] s h p n l = absurd (omega arith)
   goes_on (q ∷ []) s h p n l = absurd (omega arith)
@@ -41,7 +49,8 @@ module _ (deny : Refusals) (lines : ℕ) where
       ap (λ u. world_ends_path (ticks deny lines n u)) (next_world q.0 q.1 (t ∷ ps) s h)
       ∙ goes_on (t ∷ ps) (world_after_row q.1 deny lines s) h.2 (and_parts _ _ p).1 n (omega arith)
 
-  comes_to_end : (ps : Rows) (s : World) → Leads deny lines ps s → only_last ps ≡ true → (n : ℕ) → n + 1 ≡ length ps → world_ends_path (ticks deny lines n s) ≡ true
+  comes_to_end : (ps : Rows) (s : World) → Leads deny lines ps s → only_last ps ≡ true → (n : ℕ) → n + 1 ≡ length ps
+      → world_ends_path (ticks deny lines n s) ≡ true
   unfolding ticks
   comes_to_end [] s h p n l = absurd (omega arith)
   comes_to_end (q ∷ []) s h p zero l = here q.0 q.1 [] s h ∙ p
@@ -52,7 +61,9 @@ module _ (deny : Refusals) (lines : ℕ) where
       ∙ comes_to_end (t ∷ ps) (world_after_row q.1 deny lines s) h.2 (and_parts _ _ p).1 n (omega arith)
 
   -- a path of the book's length to what the book makes is a step
-  pub walks : (b : Book) (dt row : ℕ) (flag : Option Fault) → Reaches deny lines b dt row flag (length_of b b.event) (before_fetch deny b b.event) → Walks deny lines b (world_at b dt row flag)
+  pub walks : (b : Book) (dt row : ℕ) (flag : Option Fault)
+      → Reaches deny lines b dt row flag (length_of b b.event) (before_fetch deny b b.event)
+      → Walks deny lines b (world_at b dt row flag)
   walks b dt row flag h =
       record {
         arrives =
@@ -60,8 +71,13 @@ module _ (deny : Refusals) (lines : ℕ) where
               dt = h.last;
               row = _;
               flag = (after_fetch deny (before_fetch deny b b.event)).fault;
-              at = chosen (resetting lines) (interrupting (after_fetch deny (before_fetch deny b b.event)).mask lines) (after_fetch deny (before_fetch deny b b.event)).fault;
-              is = ap (λ n. ticks deny lines n (world_at b dt row flag)) (sym h.long) ∙ walked deny lines h.rows (world_at b dt row flag) h.leads ∙ h.arrives;
+              at =
+                  chosen (resetting lines) (interrupting (after_fetch deny (before_fetch deny b b.event)).mask lines)
+                  (after_fetch deny (before_fetch deny b b.event)).fault;
+              is =
+                  ap (λ n. ticks deny lines n (world_at b dt row flag)) (sym h.long)
+                  ∙ walked deny lines h.rows (world_at b dt row flag) h.leads
+                  ∙ h.arrives;
             };
         going = λ n l. goes_on h.rows (world_at b dt row flag) h.leads h.plain n (omega (arith, h.long));
         ending = λ n l. comes_to_end h.rows (world_at b dt row flag) h.leads h.plain n (omega (arith, h.long));

@@ -1,5 +1,6 @@
 -- Branches, taken and not taken. Assumes nothing.
-use Rattle.std.proofs.Common.{◌≡◌, ℕ, ◌+◌, ◌-◌, ◌*◌, ◌/◌, ◌%◌, ◌^◌, ◌<◌, Bool, true, false, not, ◌||◌, eqb, ltb, leb, [], ◌∷◌, pos, None, sym, refl, ap, ◌∙◌, arith}
+use Rattle.std.proofs.Common.{◌≡◌, ℕ, ◌+◌, ◌-◌, ◌*◌, ◌/◌, ◌%◌, ◌^◌, ◌<◌, Bool, true, false, not, ◌||◌, eqb, ltb, leb}
+use Rattle.std.proofs.Common.{[], ◌∷◌, pos, None, sym, refl, ap, ◌∙◌, arith}
 use lib.Signed.{le_z, lt_z}
 use Rattle.std.proofs.lemmas.Bool.Decides.{nat_tests}
 use Rattle.machine.specs.Operation.{integer_of, one_if}
@@ -20,7 +21,8 @@ use Rattle.book.specs.Fit.{Fit}
 use Rattle.book.specs.Instruction.{Instruction}
 use Rattle.paths.specs.Path.{world_at}
 use Rattle.paths.proofs.Jumps.{branch, lands}
-use Rattle.paths.proofs.Walk.{Rows, amid, ending, fetching, plus_nothing, row, split, walk, init, fetch, below, Reaches}
+use Rattle.paths.proofs.Walk.{◌↠◌, Rows, amid, ending, fetching, plus_nothing, row, split, walk, init, fetch, below}
+use Rattle.paths.proofs.Walk.{Reaches}
 
 -- the difference of two words, the second read through AD, is zero where they are equal
 same_zero : (v w : ℕ) → v < 2 ^ 32 → w < 2 ^ 32 → eqb ((v + (2 ^ 32 - (w + 0) % 2 ^ 32)) % 2 ^ 32) 0 ≡ eqb v w
@@ -60,10 +62,12 @@ not_below_is : (v : ℕ) → v < 2 ^ 32 → le_z (pos 0) (integer_of v) ≡ not 
 not_below_is v h = split (ltb v (2 ^ 31)) (λ t. rw t (low_not_below v t)) (λ t. rw t (ap not (high_sign v h t)))
 
 not_above_is : (v : ℕ) → v < 2 ^ 32 → le_z (integer_of v) (pos 0) ≡ sign v || nought v
-not_above_is v h = split (ltb v (2 ^ 31)) (λ t. rw t (low_not_above v t)) (λ t. rw t (ap (λ p. p || nought v) (high_sign v h t)))
+not_above_is v h =
+    split (ltb v (2 ^ 31)) (λ t. rw t (low_not_above v t)) (λ t. rw t (ap (λ p. p || nought v) (high_sign v h t)))
 
 above_is : (v : ℕ) → v < 2 ^ 32 → lt_z (pos 0) (integer_of v) ≡ not (sign v || nought v)
-above_is v h = split (ltb v (2 ^ 31)) (λ t. rw t (low_above v t)) (λ t. rw t (ap (λ p. not (p || nought v)) (high_sign v h t)))
+above_is v h =
+    split (ltb v (2 ^ 31)) (λ t. rw t (low_above v t)) (λ t. rw t (ap (λ p. not (p || nought v)) (high_sign v h t)))
 
 or_right : (p q : Bool) → p || q ≡ true → p ≡ false → q ≡ true
 or_right p q h k = sym (ap (λ z. z || q) k) ∙ h
@@ -105,11 +109,16 @@ module _ (deny : Refusals) (lines : ℕ) (b : Book) (dt : ℕ) (fit : Fit b) (la
   abbrev left : ℕ → Rows
   left n = (n, fetch) ∷ []
 
-  goes : (n : ℕ) (h : Regs) (t : Bool) → t ≡ true → walk deny lines (gone n) (amid b h dt None n) ≡ ending lines (after_fetch deny (branch_if b t h)) dt
-  goes n h t k = lands deny lines b dt h ((h.pc + branch_offset h.ir) % 2 ^ 32) (below (h.pc + branch_offset h.ir)) ∙ ap (λ z. ending lines (after_fetch deny (branch_if b z h)) dt) (sym k)
+  goes : (n : ℕ) (h : Regs) (t : Bool) → t ≡ true
+      → walk deny lines (gone n) (amid b h dt None n) ≡ ending lines (after_fetch deny (branch_if b t h)) dt
+  goes n h t k =
+      lands deny lines b dt h ((h.pc + branch_offset h.ir) % 2 ^ 32) (below (h.pc + branch_offset h.ir))
+      ∙ ap (λ z. ending lines (after_fetch deny (branch_if b z h)) dt) (sym k)
 
-  leaves : (n : ℕ) (h : Regs) (t : Bool) → t ≡ false → walk deny lines (left n) (amid b h dt None n) ≡ ending lines (after_fetch deny (branch_if b t h)) dt
-  leaves n h t k = fetching deny lines b h dt n ∙ ap (λ z. ending lines (after_fetch deny (branch_if b z h)) dt) (sym k)
+  leaves : (n : ℕ) (h : Regs) (t : Bool) → t ≡ false
+      → walk deny lines (left n) (amid b h dt None n) ≡ ending lines (after_fetch deny (branch_if b t h)) dt
+  leaves n h t k =
+      fetching deny lines b h dt n ∙ ap (λ z. ending lines (after_fetch deny (branch_if b z h)) dt) (sym k)
 
   -- BEQ and BNE
   abbrev one : ℕ
@@ -125,29 +134,105 @@ module _ (deny : Refusals) (lines : ℕ) (b : Book) (dt : ℕ) (fit : Fit b) (la
   same = same_zero one other (fit.words.general (rs g.ir)) (fit.words.general (rt g.ir))
 
   abbrev compares : ℕ → ℕ → Rows → Rows
-  compares k a rest = (16, init) ∷ (256 + k * 4, row x.Rt y.C0 Sum r.Ad m.Nop e.Nop s.Next (256 + k * 4 + 1)) ∷ (256 + k * 4 + 1, row x.Rs y.Ad Dif r.Nop m.Nop e.Nop s.Nul a) ∷ rest
+  compares k a rest =
+      (16, init)
+      ∷ (256 + k * 4, row x.Rt y.C0 Sum r.Ad m.Nop e.Nop s.Next (256 + k * 4 + 1))
+      ∷ (256 + k * 4 + 1, row x.Rs y.Ad Dif r.Nop m.Nop e.Nop s.Nul a)
+      ∷ rest
 
-  compares_gone : (k a n : ℕ) (t : Bool) → t ≡ true → walk deny lines (compares k a (gone n)) (world_at b dt 16 None) ≡ ending lines (after_fetch deny (branch_if b t (with_ad other (pc_risen b)))) dt
-  compares_gone k a n t h = ap (λ v. walk deny lines (gone n) (amid b (with_ad v (pc_risen b)) dt None n)) other_word ∙ goes n (with_ad other (pc_risen b)) t h
+  compares_gone : (k a n : ℕ) (t : Bool) → t ≡ true
+      → walk deny lines (compares k a (gone n)) (world_at b dt 16 None)
+      ≡ ending lines (after_fetch deny (branch_if b t (with_ad other (pc_risen b)))) dt
+  compares_gone k a n t h =
+      ap (λ v. walk deny lines (gone n) (amid b (with_ad v (pc_risen b)) dt None n)) other_word
+      ∙ goes n (with_ad other (pc_risen b)) t h
 
-  compares_left : (k a n : ℕ) (t : Bool) → t ≡ false → walk deny lines (compares k a (left n)) (world_at b dt 16 None) ≡ ending lines (after_fetch deny (branch_if b t (with_ad other (pc_risen b)))) dt
-  compares_left k a n t h = ap (λ v. walk deny lines (left n) (amid b (with_ad v (pc_risen b)) dt None n)) other_word ∙ leaves n (with_ad other (pc_risen b)) t h
+  compares_left : (k a n : ℕ) (t : Bool) → t ≡ false
+      → walk deny lines (compares k a (left n)) (world_at b dt 16 None)
+      ≡ ending lines (after_fetch deny (branch_if b t (with_ad other (pc_risen b)))) dt
+  compares_left k a n t h =
+      ap (λ v. walk deny lines (left n) (amid b (with_ad v (pc_risen b)) dt None n)) other_word
+      ∙ leaves n (with_ad other (pc_risen b)) t h
 
-  pub branches_equal_taken : (o : opcode g.ir ≡ 4) (t : eqb (reg (pc_risen b) (rs g.ir)) (reg (pc_risen b) (rt g.ir)) ≡ true) → Reaches deny lines b dt 16 None 6 (effect_of deny b Instruction.branch_equal (pc_risen b))
+  pub branches_equal_taken :
+      (o : opcode g.ir ≡ 4) (t : eqb (reg (pc_risen b) (rs g.ir)) (reg (pc_risen b) (rt g.ir)) ≡ true)
+      → Reaches deny lines b dt 16 None 6 (effect_of deny b Instruction.branch_equal (pc_risen b))
   unfolding rows
-  branches_equal_taken o t = record { rows = compares 4 32 (gone 33); long = refl; plain = refl; leads = (refl, refl, (ap (λ n. 256 + n * 4) o, refl, (refl, refl, (ap (λ z. 32 + one_if z) (same ∙ t), refl, (refl, refl, (refl, refl, tt)))))); last = dt; arrives = compares_gone 4 32 33 (eqb one other) t }
+  branches_equal_taken o t =
+      record {
+        rows = compares 4 32 (gone 33);
+        long = refl;
+        plain = refl;
+        leads =
+            (refl, refl)
+            ↠ (ap (λ n. 256 + n * 4) o, refl)
+            ↠ (refl, refl)
+            ↠ (ap (λ z. 32 + one_if z) (same ∙ t), refl)
+            ↠ (refl, refl)
+            ↠ (refl, refl)
+            ↠ tt;
+        last = dt;
+        arrives = compares_gone 4 32 33 (eqb one other) t;
+      }
 
-  pub branches_equal_not : (o : opcode g.ir ≡ 4) (t : eqb (reg (pc_risen b) (rs g.ir)) (reg (pc_risen b) (rt g.ir)) ≡ false) → Reaches deny lines b dt 16 None 4 (effect_of deny b Instruction.branch_equal (pc_risen b))
+  pub branches_equal_not :
+      (o : opcode g.ir ≡ 4) (t : eqb (reg (pc_risen b) (rs g.ir)) (reg (pc_risen b) (rt g.ir)) ≡ false)
+      → Reaches deny lines b dt 16 None 4 (effect_of deny b Instruction.branch_equal (pc_risen b))
   unfolding rows
-  branches_equal_not o t = record { rows = compares 4 32 (left 32); long = refl; plain = refl; leads = (refl, refl, (ap (λ n. 256 + n * 4) o, refl, (refl, refl, (ap (λ z. 32 + one_if z) (same ∙ t), refl, tt)))); last = dt; arrives = compares_left 4 32 32 (eqb one other) t }
+  branches_equal_not o t =
+      record {
+        rows = compares 4 32 (left 32);
+        long = refl;
+        plain = refl;
+        leads =
+            (refl, refl)
+            ↠ (ap (λ n. 256 + n * 4) o, refl)
+            ↠ (refl, refl)
+            ↠ (ap (λ z. 32 + one_if z) (same ∙ t), refl)
+            ↠ tt;
+        last = dt;
+        arrives = compares_left 4 32 32 (eqb one other) t;
+      }
 
-  pub branches_unequal_taken : (o : opcode g.ir ≡ 5) (t : not (eqb (reg (pc_risen b) (rs g.ir)) (reg (pc_risen b) (rt g.ir))) ≡ true) → Reaches deny lines b dt 16 None 6 (effect_of deny b Instruction.branch_unequal (pc_risen b))
+  pub branches_unequal_taken :
+      (o : opcode g.ir ≡ 5) (t : not (eqb (reg (pc_risen b) (rs g.ir)) (reg (pc_risen b) (rt g.ir))) ≡ true)
+      → Reaches deny lines b dt 16 None 6 (effect_of deny b Instruction.branch_unequal (pc_risen b))
   unfolding rows
-  branches_unequal_taken o t = record { rows = compares 5 34 (gone 34); long = refl; plain = refl; leads = (refl, refl, (ap (λ n. 256 + n * 4) o, refl, (refl, refl, (ap (λ z. 34 + one_if z) (same ∙ not_true (eqb one other) t), refl, (refl, refl, (refl, refl, tt)))))); last = dt; arrives = compares_gone 5 34 34 (not (eqb one other)) t }
+  branches_unequal_taken o t =
+      record {
+        rows = compares 5 34 (gone 34);
+        long = refl;
+        plain = refl;
+        leads =
+            (refl, refl)
+            ↠ (ap (λ n. 256 + n * 4) o, refl)
+            ↠ (refl, refl)
+            ↠ (ap (λ z. 34 + one_if z) (same ∙ not_true (eqb one other) t), refl)
+            ↠ (refl, refl)
+            ↠ (refl, refl)
+            ↠ tt;
+        last = dt;
+        arrives = compares_gone 5 34 34 (not (eqb one other)) t;
+      }
 
-  pub branches_unequal_not : (o : opcode g.ir ≡ 5) (t : not (eqb (reg (pc_risen b) (rs g.ir)) (reg (pc_risen b) (rt g.ir))) ≡ false) → Reaches deny lines b dt 16 None 4 (effect_of deny b Instruction.branch_unequal (pc_risen b))
+  pub branches_unequal_not :
+      (o : opcode g.ir ≡ 5) (t : not (eqb (reg (pc_risen b) (rs g.ir)) (reg (pc_risen b) (rt g.ir))) ≡ false)
+      → Reaches deny lines b dt 16 None 4 (effect_of deny b Instruction.branch_unequal (pc_risen b))
   unfolding rows
-  branches_unequal_not o t = record { rows = compares 5 34 (left 35); long = refl; plain = refl; leads = (refl, refl, (ap (λ n. 256 + n * 4) o, refl, (refl, refl, (ap (λ z. 34 + one_if z) (same ∙ not_false (eqb one other) t), refl, tt)))); last = dt; arrives = compares_left 5 34 35 (not (eqb one other)) t }
+  branches_unequal_not o t =
+      record {
+        rows = compares 5 34 (left 35);
+        long = refl;
+        plain = refl;
+        leads =
+            (refl, refl)
+            ↠ (ap (λ n. 256 + n * 4) o, refl)
+            ↠ (refl, refl)
+            ↠ (ap (λ z. 34 + one_if z) (same ∙ not_false (eqb one other) t), refl)
+            ↠ tt;
+        last = dt;
+        arrives = compares_left 5 34 35 (not (eqb one other)) t;
+      }
 
   -- BLEZ and BGTZ
   abbrev tester : ℕ → Row
@@ -163,39 +248,78 @@ module _ (deny : Refusals) (lines : ℕ) (b : Book) (dt : ℕ) (fit : Fit b) (la
   abbrev tests : ℕ → ℕ → Rows → Rows
   tests k a rest = (16, init) ∷ (256 + k * 4, tester a) ∷ rest
 
-  tests_gone : (k a n : ℕ) (t : Bool) → opcode g.ir ≡ k → row_at (256 + k * 4) ≡ tester a → turned a one ≡ n → row_at n ≡ aim → t ≡ true → Reaches deny lines b dt 16 None 5 (branch_if b t (pc_risen b))
+  tests_gone : (k a n : ℕ) (t : Bool) → opcode g.ir ≡ k → row_at (256 + k * 4) ≡ tester a → turned a one ≡ n
+      → row_at n ≡ aim → t ≡ true → Reaches deny lines b dt 16 None 5 (branch_if b t (pc_risen b))
   unfolding rows
-  tests_gone k a n t o h1 at h2 k1 = record { rows = tests k a (gone n); long = refl; plain = refl; leads = (refl, refl, (ap (λ i. 256 + i * 4) o, h1, (at, h2, (refl, refl, (refl, refl, tt))))); last = dt; arrives = goes n (pc_risen b) t k1 }
+  tests_gone k a n t o h1 at h2 k1 =
+      record {
+        rows = tests k a (gone n);
+        long = refl;
+        plain = refl;
+        leads = (refl, refl) ↠ (ap (λ i. 256 + i * 4) o, h1) ↠ (at, h2) ↠ (refl, refl) ↠ (refl, refl) ↠ tt;
+        last = dt;
+        arrives = goes n (pc_risen b) t k1;
+      }
 
-  tests_left : (k a n : ℕ) (t : Bool) → opcode g.ir ≡ k → row_at (256 + k * 4) ≡ tester a → turned a one ≡ n → row_at n ≡ fetch → t ≡ false → Reaches deny lines b dt 16 None 3 (branch_if b t (pc_risen b))
+  tests_left : (k a n : ℕ) (t : Bool) → opcode g.ir ≡ k → row_at (256 + k * 4) ≡ tester a → turned a one ≡ n
+      → row_at n ≡ fetch → t ≡ false → Reaches deny lines b dt 16 None 3 (branch_if b t (pc_risen b))
   unfolding rows
-  tests_left k a n t o h1 at h2 k1 = record { rows = tests k a (left n); long = refl; plain = refl; leads = (refl, refl, (ap (λ i. 256 + i * 4) o, h1, (at, h2, tt))); last = dt; arrives = leaves n (pc_risen b) t k1 }
+  tests_left k a n t o h1 at h2 k1 =
+      record {
+        rows = tests k a (left n);
+        long = refl;
+        plain = refl;
+        leads = (refl, refl) ↠ (ap (λ i. 256 + i * 4) o, h1) ↠ (at, h2) ↠ tt;
+        last = dt;
+        arrives = leaves n (pc_risen b) t k1;
+      }
 
-  pub branches_not_above_taken : (o : opcode g.ir ≡ 6) (t : le_z (integer_of (reg (pc_risen b) (rs g.ir))) (pos 0) ≡ true) → Reaches deny lines b dt 16 None 5 (effect_of deny b Instruction.branch_not_above (pc_risen b))
+  pub branches_not_above_taken :
+      (o : opcode g.ir ≡ 6) (t : le_z (integer_of (reg (pc_risen b) (rs g.ir))) (pos 0) ≡ true)
+      → Reaches deny lines b dt 16 None 5 (effect_of deny b Instruction.branch_not_above (pc_risen b))
   unfolding rows
   branches_not_above_taken o t =
       split (sign one)
-      (λ p. tests_gone 6 44 46 (le_z (integer_of one) (pos 0)) o refl (turn 44 (sign one) (nought one) true false p (sign_alone one p)) refl t)
-      (λ p. tests_gone 6 44 45 (le_z (integer_of one) (pos 0)) o refl (turn 44 (sign one) (nought one) false true p (or_right (sign one) (nought one) (sym (not_above_is one one_small) ∙ t) p)) refl t)
+      (λ p.
+      tests_gone 6 44 46 (le_z (integer_of one) (pos 0)) o refl
+      (turn 44 (sign one) (nought one) true false p (sign_alone one p)) refl t)
+      (λ p.
+      tests_gone 6 44 45 (le_z (integer_of one) (pos 0)) o refl
+      (turn 44 (sign one) (nought one) false true p
+      (or_right (sign one) (nought one) (sym (not_above_is one one_small) ∙ t) p)) refl t)
 
-  pub branches_not_above_not : (o : opcode g.ir ≡ 6) (t : le_z (integer_of (reg (pc_risen b) (rs g.ir))) (pos 0) ≡ false) → Reaches deny lines b dt 16 None 3 (effect_of deny b Instruction.branch_not_above (pc_risen b))
+  pub branches_not_above_not :
+      (o : opcode g.ir ≡ 6) (t : le_z (integer_of (reg (pc_risen b) (rs g.ir))) (pos 0) ≡ false)
+      → Reaches deny lines b dt 16 None 3 (effect_of deny b Instruction.branch_not_above (pc_risen b))
   unfolding rows
   branches_not_above_not o t =
       let q : sign one || nought one ≡ false = sym (not_above_is one one_small) ∙ t in
-      tests_left 6 44 44 (le_z (integer_of one) (pos 0)) o refl (turn 44 (sign one) (nought one) false false (or_left_none (sign one) (nought one) q) (or_right_none (sign one) (nought one) q)) refl t
+      tests_left 6 44 44 (le_z (integer_of one) (pos 0)) o refl
+      (turn 44 (sign one) (nought one) false false (or_left_none (sign one) (nought one) q)
+      (or_right_none (sign one) (nought one) q)) refl t
 
-  pub branches_above_taken : (o : opcode g.ir ≡ 7) (t : lt_z (pos 0) (integer_of (reg (pc_risen b) (rs g.ir))) ≡ true) → Reaches deny lines b dt 16 None 5 (effect_of deny b Instruction.branch_above (pc_risen b))
+  pub branches_above_taken : (o : opcode g.ir ≡ 7) (t : lt_z (pos 0) (integer_of (reg (pc_risen b) (rs g.ir))) ≡ true)
+      → Reaches deny lines b dt 16 None 5 (effect_of deny b Instruction.branch_above (pc_risen b))
   unfolding rows
   branches_above_taken o t =
       let q : sign one || nought one ≡ false = not_true (sign one || nought one) (sym (above_is one one_small) ∙ t) in
-      tests_gone 7 48 48 (lt_z (pos 0) (integer_of one)) o refl (turn 48 (sign one) (nought one) false false (or_left_none (sign one) (nought one) q) (or_right_none (sign one) (nought one) q)) refl t
+      tests_gone 7 48 48 (lt_z (pos 0) (integer_of one)) o refl
+      (turn 48 (sign one) (nought one) false false (or_left_none (sign one) (nought one) q)
+      (or_right_none (sign one) (nought one) q)) refl t
 
-  pub branches_above_not : (o : opcode g.ir ≡ 7) (t : lt_z (pos 0) (integer_of (reg (pc_risen b) (rs g.ir))) ≡ false) → Reaches deny lines b dt 16 None 3 (effect_of deny b Instruction.branch_above (pc_risen b))
+  pub branches_above_not : (o : opcode g.ir ≡ 7) (t : lt_z (pos 0) (integer_of (reg (pc_risen b) (rs g.ir))) ≡ false)
+      → Reaches deny lines b dt 16 None 3 (effect_of deny b Instruction.branch_above (pc_risen b))
   unfolding rows
   branches_above_not o t =
       split (sign one)
-      (λ p. tests_left 7 48 50 (lt_z (pos 0) (integer_of one)) o refl (turn 48 (sign one) (nought one) true false p (sign_alone one p)) refl t)
-      (λ p. tests_left 7 48 49 (lt_z (pos 0) (integer_of one)) o refl (turn 48 (sign one) (nought one) false true p (or_right (sign one) (nought one) (not_false (sign one || nought one) (sym (above_is one one_small) ∙ t)) p)) refl t)
+      (λ p.
+      tests_left 7 48 50 (lt_z (pos 0) (integer_of one)) o refl
+      (turn 48 (sign one) (nought one) true false p (sign_alone one p)) refl t)
+      (λ p.
+      tests_left 7 48 49 (lt_z (pos 0) (integer_of one)) o refl
+      (turn 48 (sign one) (nought one) false true p
+      (or_right (sign one) (nought one) (not_false (sign one || nought one) (sym (above_is one one_small) ∙ t)) p))
+      refl t)
 
   -- BLTZ and BGEZ
   abbrev decides : Row
@@ -208,43 +332,83 @@ module _ (deny : Refusals) (lines : ℕ) (b : Book) (dt : ℕ) (fit : Fit b) (la
   abbrev signs : ℕ → ℕ → Rows → Rows
   signs d a rest = (16, init) ∷ (260, decides) ∷ (d, tester a) ∷ rest
 
-  signs_gone : (d a n : ℕ) (t : Bool) → opcode g.ir ≡ 1 → chosen ≡ d → row_at d ≡ tester a → turned a one ≡ n → row_at n ≡ aim → t ≡ true → Reaches deny lines b dt 16 None 6 (branch_if b t (pc_risen b))
+  signs_gone : (d a n : ℕ) (t : Bool) → opcode g.ir ≡ 1 → chosen ≡ d → row_at d ≡ tester a → turned a one ≡ n
+      → row_at n ≡ aim → t ≡ true → Reaches deny lines b dt 16 None 6 (branch_if b t (pc_risen b))
   unfolding rows
-  signs_gone d a n t o c h1 at h2 k1 = record { rows = signs d a (gone n); long = refl; plain = refl; leads = (refl, refl, (ap (λ i. 256 + i * 4) o, refl, (c, h1, (at, h2, (refl, refl, (refl, refl, tt)))))); last = dt; arrives = goes n (pc_risen b) t k1 }
+  signs_gone d a n t o c h1 at h2 k1 =
+      record {
+        rows = signs d a (gone n);
+        long = refl;
+        plain = refl;
+        leads = (refl, refl) ↠ (ap (λ i. 256 + i * 4) o, refl) ↠ (c, h1) ↠ (at, h2) ↠ (refl, refl) ↠ (refl, refl) ↠ tt;
+        last = dt;
+        arrives = goes n (pc_risen b) t k1;
+      }
 
-  signs_left : (d a n : ℕ) (t : Bool) → opcode g.ir ≡ 1 → chosen ≡ d → row_at d ≡ tester a → turned a one ≡ n → row_at n ≡ fetch → t ≡ false → Reaches deny lines b dt 16 None 4 (branch_if b t (pc_risen b))
+  signs_left : (d a n : ℕ) (t : Bool) → opcode g.ir ≡ 1 → chosen ≡ d → row_at d ≡ tester a → turned a one ≡ n
+      → row_at n ≡ fetch → t ≡ false → Reaches deny lines b dt 16 None 4 (branch_if b t (pc_risen b))
   unfolding rows
-  signs_left d a n t o c h1 at h2 k1 = record { rows = signs d a (left n); long = refl; plain = refl; leads = (refl, refl, (ap (λ i. 256 + i * 4) o, refl, (c, h1, (at, h2, tt)))); last = dt; arrives = leaves n (pc_risen b) t k1 }
+  signs_left d a n t o c h1 at h2 k1 =
+      record {
+        rows = signs d a (left n);
+        long = refl;
+        plain = refl;
+        leads = (refl, refl) ↠ (ap (λ i. 256 + i * 4) o, refl) ↠ (c, h1) ↠ (at, h2) ↠ tt;
+        last = dt;
+        arrives = leaves n (pc_risen b) t k1;
+      }
 
-  pub branches_below_taken : (o : opcode g.ir ≡ 1) (w : bit 16 g.ir ≡ false) (l : bit 20 g.ir ≡ false) (t : lt_z (integer_of (reg (with_link false (pc_risen b)) (rs g.ir))) (pos 0) ≡ true) → Reaches deny lines b dt 16 None 6 (effect_of deny b (Instruction.branch_below false) (pc_risen b))
+  pub branches_below_taken :
+      (o : opcode g.ir ≡ 1) (w : bit 16 g.ir ≡ false) (l : bit 20 g.ir ≡ false)
+      (t : lt_z (integer_of (reg (with_link false (pc_risen b)) (rs g.ir))) (pos 0) ≡ true)
+      → Reaches deny lines b dt 16 None 6 (effect_of deny b (Instruction.branch_below false) (pc_risen b))
   unfolding rows
   branches_below_taken o w l t =
       let p : sign one ≡ true = sym (below_is one one_small) ∙ t in
-      signs_gone 192 36 38 (lt_z (integer_of one) (pos 0)) o (turn 192 (bit 20 g.ir) (bit 16 g.ir) false false l w) refl (turn 36 (sign one) (nought one) true false p (sign_alone one p)) refl t
+      signs_gone 192 36 38 (lt_z (integer_of one) (pos 0)) o (turn 192 (bit 20 g.ir) (bit 16 g.ir) false false l w)
+      refl (turn 36 (sign one) (nought one) true false p (sign_alone one p)) refl t
 
-  pub branches_below_not : (o : opcode g.ir ≡ 1) (w : bit 16 g.ir ≡ false) (l : bit 20 g.ir ≡ false) (t : lt_z (integer_of (reg (with_link false (pc_risen b)) (rs g.ir))) (pos 0) ≡ false) → Reaches deny lines b dt 16 None 4 (effect_of deny b (Instruction.branch_below false) (pc_risen b))
+  pub branches_below_not :
+      (o : opcode g.ir ≡ 1) (w : bit 16 g.ir ≡ false) (l : bit 20 g.ir ≡ false)
+      (t : lt_z (integer_of (reg (with_link false (pc_risen b)) (rs g.ir))) (pos 0) ≡ false)
+      → Reaches deny lines b dt 16 None 4 (effect_of deny b (Instruction.branch_below false) (pc_risen b))
   unfolding rows
   branches_below_not o w l t =
       let p : sign one ≡ false = sym (below_is one one_small) ∙ t in
       let c : chosen ≡ 192 = turn 192 (bit 20 g.ir) (bit 16 g.ir) false false l w in
       split (nought one)
-      (λ q. signs_left 192 36 37 (lt_z (integer_of one) (pos 0)) o c refl (turn 36 (sign one) (nought one) false true p q) refl t)
-      (λ q. signs_left 192 36 36 (lt_z (integer_of one) (pos 0)) o c refl (turn 36 (sign one) (nought one) false false p q) refl t)
+      (λ q.
+      signs_left 192 36 37 (lt_z (integer_of one) (pos 0)) o c refl
+      (turn 36 (sign one) (nought one) false true p q) refl t)
+      (λ q.
+      signs_left 192 36 36 (lt_z (integer_of one) (pos 0)) o c refl
+      (turn 36 (sign one) (nought one) false false p q) refl t)
 
-  pub branches_not_below_taken : (o : opcode g.ir ≡ 1) (w : bit 16 g.ir ≡ true) (l : bit 20 g.ir ≡ false) (t : le_z (pos 0) (integer_of (reg (with_link false (pc_risen b)) (rs g.ir))) ≡ true) → Reaches deny lines b dt 16 None 6 (effect_of deny b (Instruction.branch_not_below false) (pc_risen b))
+  pub branches_not_below_taken :
+      (o : opcode g.ir ≡ 1) (w : bit 16 g.ir ≡ true) (l : bit 20 g.ir ≡ false)
+      (t : le_z (pos 0) (integer_of (reg (with_link false (pc_risen b)) (rs g.ir))) ≡ true)
+      → Reaches deny lines b dt 16 None 6 (effect_of deny b (Instruction.branch_not_below false) (pc_risen b))
   unfolding rows
   branches_not_below_taken o w l t =
       let p : sign one ≡ false = not_true (sign one) (sym (not_below_is one one_small) ∙ t) in
       let c : chosen ≡ 193 = turn 192 (bit 20 g.ir) (bit 16 g.ir) false true l w in
       split (nought one)
-      (λ q. signs_gone 193 40 41 (le_z (pos 0) (integer_of one)) o c refl (turn 40 (sign one) (nought one) false true p q) refl t)
-      (λ q. signs_gone 193 40 40 (le_z (pos 0) (integer_of one)) o c refl (turn 40 (sign one) (nought one) false false p q) refl t)
+      (λ q.
+      signs_gone 193 40 41 (le_z (pos 0) (integer_of one)) o c refl
+      (turn 40 (sign one) (nought one) false true p q) refl t)
+      (λ q.
+      signs_gone 193 40 40 (le_z (pos 0) (integer_of one)) o c refl
+      (turn 40 (sign one) (nought one) false false p q) refl t)
 
-  pub branches_not_below_not : (o : opcode g.ir ≡ 1) (w : bit 16 g.ir ≡ true) (l : bit 20 g.ir ≡ false) (t : le_z (pos 0) (integer_of (reg (with_link false (pc_risen b)) (rs g.ir))) ≡ false) → Reaches deny lines b dt 16 None 4 (effect_of deny b (Instruction.branch_not_below false) (pc_risen b))
+  pub branches_not_below_not :
+      (o : opcode g.ir ≡ 1) (w : bit 16 g.ir ≡ true) (l : bit 20 g.ir ≡ false)
+      (t : le_z (pos 0) (integer_of (reg (with_link false (pc_risen b)) (rs g.ir))) ≡ false)
+      → Reaches deny lines b dt 16 None 4 (effect_of deny b (Instruction.branch_not_below false) (pc_risen b))
   unfolding rows
   branches_not_below_not o w l t =
       let p : sign one ≡ true = not_false (sign one) (sym (not_below_is one one_small) ∙ t) in
-      signs_left 193 40 42 (le_z (pos 0) (integer_of one)) o (turn 192 (bit 20 g.ir) (bit 16 g.ir) false true l w) refl (turn 40 (sign one) (nought one) true false p (sign_alone one p)) refl t
+      signs_left 193 40 42 (le_z (pos 0) (integer_of one)) o (turn 192 (bit 20 g.ir) (bit 16 g.ir) false true l w) refl
+      (turn 40 (sign one) (nought one) true false p (sign_alone one p)) refl t
 
   -- BLTZAL and BGEZAL: RS is read after the link is written
   abbrev linking : ℕ → Row
@@ -268,56 +432,92 @@ module _ (deny : Refusals) (lines : ℕ) (b : Book) (dt : ℕ) (fit : Fit b) (la
   then_turned : (a n : ℕ) → turned a then ≡ n → turned a (reg (link_in ((next + 0) % 2 ^ 32)) (rs g.ir)) ≡ n
   then_turned a n at = ap (λ v. turned a (reg (link_in v) (rs g.ir))) next_word ∙ at
 
-  links_gone : (c d a n : ℕ) (t : Bool) → opcode g.ir ≡ 1 → chosen ≡ c → row_at c ≡ linking d → row_at d ≡ tester a → turned a then ≡ n → row_at n ≡ aim → t ≡ true → Reaches deny lines b dt 16 None 7 (branch_if b t (link_in next))
+  links_gone : (c d a n : ℕ) (t : Bool) → opcode g.ir ≡ 1 → chosen ≡ c → row_at c ≡ linking d → row_at d ≡ tester a
+      → turned a then ≡ n → row_at n ≡ aim → t ≡ true
+      → Reaches deny lines b dt 16 None 7 (branch_if b t (link_in next))
   unfolding rows
   links_gone c d a n t o h0 h1 h2 at h3 k1 =
       record {
         rows = links c d a (gone n);
         long = refl;
         plain = refl;
-        leads = (refl, refl, (ap (λ i. 256 + i * 4) o, refl, (h0, h1, (refl, h2, (then_turned a n at, h3, (refl, refl, (refl, refl, tt)))))));
+        leads =
+            (refl, refl)
+            ↠ (ap (λ i. 256 + i * 4) o, refl)
+            ↠ (h0, h1)
+            ↠ (refl, h2)
+            ↠ (then_turned a n at, h3)
+            ↠ (refl, refl)
+            ↠ (refl, refl)
+            ↠ tt;
         last = dt;
-        arrives = ap (λ v. walk deny lines (gone n) (amid b (link_in v) dt None n)) next_word ∙ goes n (link_in next) t k1;
+        arrives =
+            ap (λ v. walk deny lines (gone n) (amid b (link_in v) dt None n)) next_word ∙ goes n (link_in next) t k1;
       }
 
-  links_left : (c d a n : ℕ) (t : Bool) → opcode g.ir ≡ 1 → chosen ≡ c → row_at c ≡ linking d → row_at d ≡ tester a → turned a then ≡ n → row_at n ≡ fetch → t ≡ false → Reaches deny lines b dt 16 None 5 (branch_if b t (link_in next))
+  links_left : (c d a n : ℕ) (t : Bool) → opcode g.ir ≡ 1 → chosen ≡ c → row_at c ≡ linking d → row_at d ≡ tester a
+      → turned a then ≡ n → row_at n ≡ fetch → t ≡ false
+      → Reaches deny lines b dt 16 None 5 (branch_if b t (link_in next))
   unfolding rows
   links_left c d a n t o h0 h1 h2 at h3 k1 =
       record {
         rows = links c d a (left n);
         long = refl;
         plain = refl;
-        leads = (refl, refl, (ap (λ i. 256 + i * 4) o, refl, (h0, h1, (refl, h2, (then_turned a n at, h3, tt)))));
+        leads = (refl, refl) ↠ (ap (λ i. 256 + i * 4) o, refl) ↠ (h0, h1) ↠ (refl, h2) ↠ (then_turned a n at, h3) ↠ tt;
         last = dt;
-        arrives = ap (λ v. walk deny lines (left n) (amid b (link_in v) dt None n)) next_word ∙ leaves n (link_in next) t k1;
+        arrives =
+            ap (λ v. walk deny lines (left n) (amid b (link_in v) dt None n)) next_word ∙ leaves n (link_in next) t k1;
       }
 
-  pub branches_below_link_taken : (o : opcode g.ir ≡ 1) (w : bit 16 g.ir ≡ false) (l : bit 20 g.ir ≡ true) (t : lt_z (integer_of (reg (with_link true (pc_risen b)) (rs g.ir))) (pos 0) ≡ true) → Reaches deny lines b dt 16 None 7 (effect_of deny b (Instruction.branch_below true) (pc_risen b))
+  pub branches_below_link_taken :
+      (o : opcode g.ir ≡ 1) (w : bit 16 g.ir ≡ false) (l : bit 20 g.ir ≡ true)
+      (t : lt_z (integer_of (reg (with_link true (pc_risen b)) (rs g.ir))) (pos 0) ≡ true)
+      → Reaches deny lines b dt 16 None 7 (effect_of deny b (Instruction.branch_below true) (pc_risen b))
   unfolding rows
   branches_below_link_taken o w l t =
       let p : sign then ≡ true = sym (below_is then then_small) ∙ t in
-      links_gone 194 192 36 38 (lt_z (integer_of then) (pos 0)) o (turn 192 (bit 20 g.ir) (bit 16 g.ir) true false l w) refl refl (turn 36 (sign then) (nought then) true false p (sign_alone then p)) refl t
+      links_gone 194 192 36 38 (lt_z (integer_of then) (pos 0)) o (turn 192 (bit 20 g.ir) (bit 16 g.ir) true false l w)
+      refl refl (turn 36 (sign then) (nought then) true false p (sign_alone then p)) refl t
 
-  pub branches_below_link_not : (o : opcode g.ir ≡ 1) (w : bit 16 g.ir ≡ false) (l : bit 20 g.ir ≡ true) (t : lt_z (integer_of (reg (with_link true (pc_risen b)) (rs g.ir))) (pos 0) ≡ false) → Reaches deny lines b dt 16 None 5 (effect_of deny b (Instruction.branch_below true) (pc_risen b))
+  pub branches_below_link_not :
+      (o : opcode g.ir ≡ 1) (w : bit 16 g.ir ≡ false) (l : bit 20 g.ir ≡ true)
+      (t : lt_z (integer_of (reg (with_link true (pc_risen b)) (rs g.ir))) (pos 0) ≡ false)
+      → Reaches deny lines b dt 16 None 5 (effect_of deny b (Instruction.branch_below true) (pc_risen b))
   unfolding rows
   branches_below_link_not o w l t =
       let p : sign then ≡ false = sym (below_is then then_small) ∙ t in
       let c : chosen ≡ 194 = turn 192 (bit 20 g.ir) (bit 16 g.ir) true false l w in
       split (nought then)
-      (λ q. links_left 194 192 36 37 (lt_z (integer_of then) (pos 0)) o c refl refl (turn 36 (sign then) (nought then) false true p q) refl t)
-      (λ q. links_left 194 192 36 36 (lt_z (integer_of then) (pos 0)) o c refl refl (turn 36 (sign then) (nought then) false false p q) refl t)
+      (λ q.
+      links_left 194 192 36 37 (lt_z (integer_of then) (pos 0)) o c refl refl
+      (turn 36 (sign then) (nought then) false true p q) refl t)
+      (λ q.
+      links_left 194 192 36 36 (lt_z (integer_of then) (pos 0)) o c refl refl
+      (turn 36 (sign then) (nought then) false false p q) refl t)
 
-  pub branches_not_below_link_taken : (o : opcode g.ir ≡ 1) (w : bit 16 g.ir ≡ true) (l : bit 20 g.ir ≡ true) (t : le_z (pos 0) (integer_of (reg (with_link true (pc_risen b)) (rs g.ir))) ≡ true) → Reaches deny lines b dt 16 None 7 (effect_of deny b (Instruction.branch_not_below true) (pc_risen b))
+  pub branches_not_below_link_taken :
+      (o : opcode g.ir ≡ 1) (w : bit 16 g.ir ≡ true) (l : bit 20 g.ir ≡ true)
+      (t : le_z (pos 0) (integer_of (reg (with_link true (pc_risen b)) (rs g.ir))) ≡ true)
+      → Reaches deny lines b dt 16 None 7 (effect_of deny b (Instruction.branch_not_below true) (pc_risen b))
   unfolding rows
   branches_not_below_link_taken o w l t =
       let p : sign then ≡ false = not_true (sign then) (sym (not_below_is then then_small) ∙ t) in
       let c : chosen ≡ 195 = turn 192 (bit 20 g.ir) (bit 16 g.ir) true true l w in
       split (nought then)
-      (λ q. links_gone 195 193 40 41 (le_z (pos 0) (integer_of then)) o c refl refl (turn 40 (sign then) (nought then) false true p q) refl t)
-      (λ q. links_gone 195 193 40 40 (le_z (pos 0) (integer_of then)) o c refl refl (turn 40 (sign then) (nought then) false false p q) refl t)
+      (λ q.
+      links_gone 195 193 40 41 (le_z (pos 0) (integer_of then)) o c refl refl
+      (turn 40 (sign then) (nought then) false true p q) refl t)
+      (λ q.
+      links_gone 195 193 40 40 (le_z (pos 0) (integer_of then)) o c refl refl
+      (turn 40 (sign then) (nought then) false false p q) refl t)
 
-  pub branches_not_below_link_not : (o : opcode g.ir ≡ 1) (w : bit 16 g.ir ≡ true) (l : bit 20 g.ir ≡ true) (t : le_z (pos 0) (integer_of (reg (with_link true (pc_risen b)) (rs g.ir))) ≡ false) → Reaches deny lines b dt 16 None 5 (effect_of deny b (Instruction.branch_not_below true) (pc_risen b))
+  pub branches_not_below_link_not :
+      (o : opcode g.ir ≡ 1) (w : bit 16 g.ir ≡ true) (l : bit 20 g.ir ≡ true)
+      (t : le_z (pos 0) (integer_of (reg (with_link true (pc_risen b)) (rs g.ir))) ≡ false)
+      → Reaches deny lines b dt 16 None 5 (effect_of deny b (Instruction.branch_not_below true) (pc_risen b))
   unfolding rows
   branches_not_below_link_not o w l t =
       let p : sign then ≡ true = not_false (sign then) (sym (not_below_is then then_small) ∙ t) in
-      links_left 195 193 40 42 (le_z (pos 0) (integer_of then)) o (turn 192 (bit 20 g.ir) (bit 16 g.ir) true true l w) refl refl (turn 40 (sign then) (nought then) true false p (sign_alone then p)) refl t
+      links_left 195 193 40 42 (le_z (pos 0) (integer_of then)) o (turn 192 (bit 20 g.ir) (bit 16 g.ir) true true l w)
+      refl refl (turn 40 (sign then) (nought then) true false p (sign_alone then p)) refl t

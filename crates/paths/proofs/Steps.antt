@@ -40,15 +40,20 @@ exception_rows n (inl e) = subst (λ k. row_at k ≡ excepts_row) (sym e) refl
 exception_rows n (inr e) = subst (λ k. row_at k ≡ excepts_row) (sym e) refl
 
 module _ (deny : Refusals) (lines : ℕ) (b : Book) (dt : ℕ) (fit : Fit b) (law : WordsStayWords) where
-  reaches : (v : Event) (row : ℕ) (flag : Option Fault) → AtEvent v row flag → Reaches deny lines b dt row flag (length_of b v) (before_fetch deny b v)
+  reaches : (v : Event) (row : ℕ) (flag : Option Fault) → AtEvent v row flag
+      → Reaches deny lines b dt row flag (length_of b v) (before_fetch deny b v)
   reaches Event.reset row flag h = resets deny lines b dt fit law row flag (reset_rows row h)
   reaches (Event.exception c) row flag h =
-      subst (λ u. Reaches deny lines b dt row u 4 (before_fetch deny b (Event.exception c))) (sym h.1) (excepts deny lines b dt fit law row c (exception_rows row h.0))
+      subst (λ u. Reaches deny lines b dt row u 4 (before_fetch deny b (Event.exception c))) (sym h.1)
+      (excepts deny lines b dt fit law row c (exception_rows row h.0))
   reaches Event.interrupt row flag h =
-      subst₂ (λ n u. Reaches deny lines b dt n u 4 (before_fetch deny b Event.interrupt)) (sym h.0) (sym h.1) (interrupts deny lines b dt fit law)
+      subst₂ (λ n u. Reaches deny lines b dt n u 4 (before_fetch deny b Event.interrupt)) (sym h.0) (sym h.1)
+      (interrupts deny lines b dt fit law)
   reaches Event.run row flag h =
-      subst₂ (λ n u. Reaches deny lines b dt n u (length_of b Event.run) (before_fetch deny b Event.run)) (sym h.0) (sym h.1) (decodes deny lines b dt fit law)
+      subst₂ (λ n u. Reaches deny lines b dt n u (length_of b Event.run) (before_fetch deny b Event.run)) (sym h.0)
+      (sym h.1) (decodes deny lines b dt fit law)
 
 pub steps_are_paths_lem : WordsStayWords → StepsArePaths
 steps_are_paths_lem law deny lines b fit s h =
-    subst (λ w. Walks deny lines b w) (sym h.is) (walks deny lines b h.dt h.row h.flag (reaches deny lines b h.dt fit law b.event h.row h.flag h.at))
+    subst (λ w. Walks deny lines b w) (sym h.is)
+    (walks deny lines b h.dt h.row h.flag (reaches deny lines b h.dt fit law b.event h.row h.flag h.at))

@@ -15,9 +15,12 @@ apply : (t : Bool) (f h : ℕ → ℕ) (x : ℕ) → cond t f h x ≡ cond t (f 
 apply true f h x = refl
 apply false f h x = refl
 
-by_action : (r : Refusals) (bytes : ℕ → ℕ) (address : ℕ) (y : Action) (x : ℕ) → bytes_after (still_memory r bytes) (Some (record { address = address; action = y })) x ≡ byte_after (still_memory r bytes) (record { address = address; action = y }) x
+by_action : (r : Refusals) (bytes : ℕ → ℕ) (address : ℕ) (y : Action) (x : ℕ)
+    → bytes_after (still_memory r bytes) (Some (record { address = address; action = y })) x
+    ≡ byte_after (still_memory r bytes) (record { address = address; action = y }) x
 by_action r bytes address action.Read x = either (r.unreadable (word_of address)) (bytes x)
-by_action r bytes address (action.Write w d) x = apply (r.unwritable (word_of address)) bytes (stored_byte (first_address w address) (byte_count w) d bytes) x
+by_action r bytes address (action.Write w d) x =
+    apply (r.unwritable (word_of address)) bytes (stored_byte (first_address w address) (byte_count w) d bytes) x
 
 pub still_keeps : StillKeeps
 still_keeps r bytes q x = by_action r bytes q.address q.action x

@@ -1,5 +1,6 @@
 -- A path of rows, walked one row after another. Assumes nothing.
-use Rattle.std.proofs.Common.{◌≡◌, ℕ, ◌+◌, ◌*◌, ◌%◌, ◌^◌, ◌<◌, Bool, true, false, not, ◌&&◌, List, [], ◌∷◌, length, is_some, None, Option, refl, ap, ◌∙◌, arith}
+use Rattle.std.proofs.Common.{◌≡◌, ℕ, ◌+◌, ◌*◌, ◌%◌, ◌^◌, ◌<◌, Bool, true, false, not, ◌&&◌, List, [], ◌∷◌, length}
+use Rattle.std.proofs.Common.{is_some, None, Option, refl, ap, ◌∙◌, arith}
 use Rattle.bus.specs.Request.{word_of}
 use Rattle.machine.specs.Interrupt.{interrupting, resetting}
 use Rattle.machine.specs.Operation.{one_if}
@@ -42,11 +43,18 @@ abbrev pub Leads : Refusals → ℕ → Rows → World → Type 0
 Leads r lines [] s = Unit {0}
 Leads r lines (p ∷ ps) s = (s.state.row ≡ p.0) × (row_at p.0 ≡ p.1) × Leads r lines ps (world_after_row p.1 r lines s)
 
-pub walked : (r : Refusals) (lines : ℕ) (ps : Rows) (s : World) → Leads r lines ps s → ticks r lines (length ps) s ≡ walk r lines ps s
+-- a row that the world has come to, and the rows behind it
+infixr 5 ◌↠◌
+abbrev pub ◌↠◌ : {A B C : Type 0} → A × B → C → A × B × C
+◌↠◌ row rest = (row.0, row.1, rest)
+
+pub walked : (r : Refusals) (lines : ℕ) (ps : Rows) (s : World) → Leads r lines ps s
+    → ticks r lines (length ps) s ≡ walk r lines ps s
 unfolding tick ticks
 walked r lines [] s h = refl
 walked r lines (p ∷ ps) s h =
-    ap (λ w. ticks r lines (length ps) (world_after_row w r lines s)) (ap row_at h.0 ∙ h.1) ∙ walked r lines ps (world_after_row p.1 r lines s) h.2
+    ap (λ w. ticks r lines (length ps) (world_after_row w r lines s)) (ap row_at h.0 ∙ h.1)
+    ∙ walked r lines ps (world_after_row p.1 r lines s) h.2
 
 -- the world at the boundary that ends a step
 abbrev pub ending : ℕ → Effect → ℕ → World
@@ -57,7 +65,8 @@ ending lines m dt =
             regs = m.regs;
             dt = dt;
             flag = m.fault;
-            row = 16 + one_if (resetting lines) * 4 + one_if (interrupting m.mask lines) * 2 + one_if (is_some m.fault);
+            row =
+                16 + one_if (resetting lines) * 4 + one_if (interrupting m.mask lines) * 2 + one_if (is_some m.fault);
             sampled = lines;
             ledger = m.ledger;
           };
@@ -71,7 +80,8 @@ only_last (p ∷ []) = ends_path p.1.sequencing
 only_last (p ∷ (q ∷ ps)) = not (ends_path p.1.sequencing) && only_last (q ∷ ps)
 
 -- a path of n rows from where the microprogram stands to the boundary at which what was made, and fetched, stands
-pub record Reaches (deny : Refusals) (lines : ℕ) (b : Book) (dt row : ℕ) (flag : Option Fault) (n : ℕ) (m : Effect) : Type 0 where
+pub record Reaches (deny : Refusals) (lines : ℕ) (b : Book) (dt row : ℕ) (flag : Option Fault) (n : ℕ) (m : Effect) :
+    Type 0 where
   pub rows : Rows
   pub long : length rows ≡ n
   pub plain : only_last rows ≡ true
@@ -95,7 +105,17 @@ pub below : (n : ℕ) → n % 2 ^ 32 < 2 ^ 32
 below n = omega arith
 
 abbrev pub row : OperandX → OperandY → Operation → Destination → Transfer → Detection → Sequencing → ℕ → Row
-row a b op d t e s n = record { x = a; y = b; operation = op; destination = d; transfer = t; detection = e; sequencing = s; amic = n }
+row a b op d t e s n =
+    record {
+      x = a;
+      y = b;
+      operation = op;
+      destination = d;
+      transfer = t;
+      detection = e;
+      sequencing = s;
+      amic = n;
+    }
 
 abbrev pub init : Row
 init = row x.Pc y.C4 Sum r.Pc m.Nop e.Nop s.Decod 0
@@ -109,10 +129,22 @@ fetch = row x.C0 y.C0 Sum r.Nop m.If e.Ibe s.Rie 16
 -- a world on the way of a step: its registers, DT, flag and row, and all else as at the start
 abbrev pub amid : Book → Regs → ℕ → Option Fault → ℕ → World
 amid b g dt flag at =
-    record { state = record { regs = g; dt = dt; flag = flag; row = at; sampled = b.sampled; ledger = b.ledger }; bytes = b.bytes }
+    record {
+      state =
+          record {
+            regs = g;
+            dt = dt;
+            flag = flag;
+            row = at;
+            sampled = b.sampled;
+            ledger = b.ledger;
+          };
+      bytes = b.bytes;
+    }
 
 -- the fetch behind registers that a step left
-pub fetching : (deny : Refusals) (lines : ℕ) (b : Book) (g : Regs) (dt at : ℕ) → walk deny lines ((at, fetch) ∷ []) (amid b g dt None at) ≡ ending lines (after_fetch deny (without_fault b g)) dt
+pub fetching : (deny : Refusals) (lines : ℕ) (b : Book) (g : Regs) (dt at : ℕ)
+    → walk deny lines ((at, fetch) ∷ []) (amid b g dt None at) ≡ ending lines (after_fetch deny (without_fault b g)) dt
 fetching deny lines b g dt at = split (deny.unreadable (word_of g.pc)) (λ q. rw q) (λ q. rw q)
 
 -- RT and RS, passed on through a sum with nothing

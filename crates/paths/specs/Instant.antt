@@ -17,23 +17,38 @@ pub record World : Type 0 where
 
 -- bytes and refused words as a memory with no waits
 abbrev pub still_memory : Refusals → (ℕ → ℕ) → Meaning
-still_memory r bytes = record { byte = bytes; unreadable = r.unreadable; unwritable = r.unwritable; waits = λ x. 0; longest = 0 }
+still_memory r bytes =
+    record {
+      byte = bytes;
+      unreadable = r.unreadable;
+      unwritable = r.unwritable;
+      waits = λ x. 0;
+      longest = 0;
+    }
 
 -- the bytes after a request: only a write that is not refused changes any
 abbrev pub bytes_after : Meaning → Option Request → ℕ → ℕ
 bytes_after m None = m.byte
 bytes_after m (Some q) =
-    elim q.action [ action.Read ↦ m.byte | action.Write w d ↦ cond (is_refused m q) m.byte (stored_byte (first_address w q.address) (byte_count w) d m.byte) ]
+    elim q.action [
+      | action.Read ↦ m.byte
+      | action.Write w d ↦ cond (is_refused m q) m.byte
+          (stored_byte (first_address w q.address) (byte_count w) d m.byte)
+    ]
 
 -- that is what the bus says of the bytes after a request
 abbrev pub StillKeeps : Type 0
-StillKeeps = (r : Refusals) (bytes : ℕ → ℕ) (q : Request) (x : ℕ) → bytes_after (still_memory r bytes) (Some q) x ≡ byte_after (still_memory r bytes) q x
+StillKeeps =
+    (r : Refusals) (bytes : ℕ → ℕ) (q : Request) (x : ℕ)
+    → bytes_after (still_memory r bytes) (Some q) x ≡ byte_after (still_memory r bytes) q x
 
 -- one cycle in a row
 abbrev pub world_after_row : Row → Refusals → ℕ → World → World
 world_after_row w r lines s =
     record {
-      state = state_after w lines (row_output w s.state) (option_map (answer (still_memory r s.bytes)) (request_of w s.state)) s.state;
+      state =
+          state_after w lines (row_output w s.state)
+          (option_map (answer (still_memory r s.bytes)) (request_of w s.state)) s.state;
       bytes = bytes_after (still_memory r s.bytes) (request_of w s.state);
     }
 

@@ -202,7 +202,10 @@ unfoldable pub laid_out : ℕ → ℕ → List Entry → List Fields
 laid_out zero n es = []
 laid_out (suc k) n [] = empty_fields ∷ laid_out k (suc n) []
 laid_out (suc k) n (c ∷ es) =
-    elim (n == c.address) [ true ↦ c.fields ∷ laid_out k (suc n) es | false ↦ empty_fields ∷ laid_out k (suc n) (c ∷ es) ]
+    elim (n == c.address) [
+      | true ↦ c.fields ∷ laid_out k (suc n) es
+      | false ↦ empty_fields ∷ laid_out k (suc n) (c ∷ es)
+    ]
 
 -- the 1,024 rows
 unfoldable pub rows : List Fields
@@ -211,7 +214,16 @@ rows = laid_out 1024 0 listing
 
 abbrev pub row_of_fields : Fields → Row
 row_of_fields f =
-    record { x = f.0; y = f.1; operation = f.2; destination = f.3; transfer = f.4; detection = f.5; sequencing = f.6; amic = f.7 }
+    record {
+      x = f.0;
+      y = f.1;
+      operation = f.2;
+      destination = f.3;
+      transfer = f.4;
+      detection = f.5;
+      sequencing = f.6;
+      amic = f.7;
+    }
 
 -- the row at an address
 abbrev pub row_at : ℕ → Row

@@ -9,7 +9,8 @@ use super::row::{
 };
 use machine::operation::Operation as A;
 
-/// The fields of a row, in the order of the listing: a tuple, so that a row of the table is one line, like the listing's.
+/// The fields of a row, in the order of the listing: a tuple, so that a row of the table is one line, as in the
+/// listing.
 type Fields = (X, Y, A, R, M, E, S, u16);
 
 /// What an address holds that the listing leaves out: an illegal code, followed by row 15.

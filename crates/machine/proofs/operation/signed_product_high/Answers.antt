@@ -13,7 +13,11 @@ returns c =
     let same_a : a ≡ sx = c.from.ensures ∙ to_z-of_z w32 sx (record { sfits = c.cast_signed.type_inv }) in
     let same_b : b ≡ sy = c.from-2.ensures ∙ to_z-of_z w32 sy (record { sfits = c.cast_signed-2.type_inv }) in
     let fits : SFits w64 (sx *ℤ sy) = product_fits sx sy c.cast_signed.type_inv c.cast_signed-2.type_inv in
-    let product = ap₂ ◌*ℤ◌ (to_z-of_z w64 a (record { sfits = c.from.type_inv }) ∙ same_a) (to_z-of_z w64 b (record { sfits = c.from-2.type_inv }) ∙ same_b) in
+    let product =
+    ap₂ ◌*ℤ◌ (to_z-of_z w64 a (record {
+      sfits =
+          c.from.type_inv;
+    }) ∙ same_a) (to_z-of_z w64 b (record { sfits = c.from-2.type_inv }) ∙ same_b) in
     ap (λ n. n / 4294967296)
     (c.cast_unsigned.ensures
     ∙ simp product (ap (of_z w64) (to_z-of_z w64 (sx *ℤ sy) fits) ∙ residue_64 (sx *ℤ sy) fits)

@@ -11,4 +11,6 @@ returns c =
     let fits : SFits w32 c.wrapping_rem.result = record { sfits = c.wrapping_rem.type_inv } in
     let same : c.wrapping_rem.result ≡ rem_z (integer_of c.args.x) (integer_of c.args.y) = grind (arith, to_z-of_z) in
     rw (ne_eqb c.args.y 0 c.if-y-eq0.false)
-    (c.cast_unsigned.ensures ∙ ap (of_z w32) (to_z-of_z w32 c.wrapping_rem.result fits) ∙ residue_32 c.wrapping_rem.result fits ∙ ap word (same ∙ remainder (integer_of c.args.x) (integer_of c.args.y)))
+    (c.cast_unsigned.ensures ∙ ap (of_z w32) (to_z-of_z w32 c.wrapping_rem.result fits)
+    ∙ residue_32 c.wrapping_rem.result fits
+    ∙ ap word (same ∙ remainder (integer_of c.args.x) (integer_of c.args.y)))
