@@ -3,15 +3,31 @@
 ghost use Rattle.std.specs.Prelude.{◌≡◌, IsTrue, ◌↔◌};
 ghost use Rattle.replies.specs.Replies.{answer_text};
 
-use text::writing::text;
 use pile::job::Memories;
 use replies::Replies;
+use std::alloc::Global;
+use text::writing::text;
 
-/// A job, and the bytes of its replies, as the rules give them.
-#[derive(Clone, Copy)]
-pub struct Case {
-    pub job: &'static str,
-    pub replies: &'static str,
+/// A job, and its replies as the rules give them.
+#[derive(Drop)]
+pub struct Case<'a> {
+    pub name: &'a str,
+    /// The number of the line that begins it in its file.
+    pub line: u64,
+    pub job: Vec<u8>,
+    pub replies: String,
+}
+
+impl<'a> Case<'a> {
+    /// A job of no bytes.
+    pub fn new(heap: Global, name: &'a str, line: u64) -> Case<'a> {
+        Case {
+            name,
+            line,
+            job: Vec::new(heap),
+            replies: String::new(heap),
+        }
+    }
 }
 
 /// Whether a job is answered by these replies.

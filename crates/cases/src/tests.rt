@@ -1,128 +1,77 @@
-//! Every case of the tables, each on a pile of its own.
+//! What no file of cases says.
 
-use super::case::{Case, holds};
-use super::{
-    arithmetic, branches, calls, cycles, errors, handlers, interrupts, jumps, memory, misplaced,
-    products, programs, reading, resets, system, user, user_memory,
-};
+use super::case::holds;
+use super::reading::read;
+use super::report::compare;
 use jobs::whole::last_reply;
-use text::reply::Reply;
 use pile::job::Memories;
 use replies::example::first_job;
-use std::alloc::{AllocError, Global};
-use std::process::Abort;
 use std::test::Fail;
+use text::reply::Reply;
 
-/// Stops at the first case of a table that is answered otherwise, and names it by its place, from 0.
-fn hold(rt: &impl Abort, table: &str, cases: &[Case]) {
-    for (number, case) in cases.iter().enumerate() {
-        assert!(rt;
-            holds(case.job.as_bytes(), case.replies.as_bytes()),
-            "case {number} of {table}: {}",
-            case.job
-        );
-    }
+/// Every kind of line; of its two cases the second is answered otherwise.
+const FILE: &str = r#"# A theme.
+
+case first
+# What it shows.
+= 20   ; start
+> 40 0001   < 40 0000000000000001 0000000000000000 0000000000000000   ; a cycle
+>  < FF 02 00000003 00000000
+> "2 \0A" 2   < FF 02 00000004 00000000   ; twice
+< FF 02 00000005 00000000
+> "50 00"   < 50 00 00000000
+
+case second
+> 40 0001
+< FF 05 00000001 00000000
+= 20
+= 20   ; the second start is denied
+"#;
+
+#[test]
+fn a_file_of_cases(rt: HostRuntime) -> Result<(), Fail> {
+    let cases = read(rt.alloc(), FILE)?;
+    assert_eq!(rt; cases.len(), 2);
+    let (first, second) = (&cases[0], &cases[1]);
+    assert_eq!(rt;
+        first.job.as_slice(),
+        b"20\n40 0001\n\n2 \n2 \n50 00".as_slice()
+    );
+    assert_eq!(rt;
+        second.replies.as_str(),
+        "FF 05 00000001 00000000\n20\n20\n"
+    );
+    assert_eq!(rt; (first.name, first.line), ("first", 3));
+    assert_eq!(rt; (second.name, second.line), ("second", 12));
+    let tally = compare(&rt, "FILE", &cases)?;
+    assert_eq!(rt; (tally.cases, tally.differ), (2, 1));
+    Ok(())
 }
 
 #[test]
-fn lines_and_denials(rt: HostRuntime) {
-    hold(&rt, "reading", reading::cases());
-}
-
-#[test]
-fn runs_and_cycles(rt: HostRuntime) {
-    hold(&rt, "calls", calls::cases());
-    hold(&rt, "cycles", cycles::cases());
-}
-
-#[test]
-fn instructions(rt: HostRuntime) {
-    hold(&rt, "arithmetic", arithmetic::cases());
-    hold(&rt, "products", products::cases());
-    hold(&rt, "branches", branches::cases());
-    hold(&rt, "jumps", jumps::cases());
-    hold(&rt, "system", system::cases());
-    hold(&rt, "user", user::cases());
-}
-
-#[test]
-fn loads_and_stores(rt: HostRuntime) {
-    hold(&rt, "memory", memory::cases());
-    hold(&rt, "misplaced", misplaced::cases());
-    hold(&rt, "user_memory", user_memory::cases());
-}
-
-#[test]
-fn interrupts_and_resets(rt: HostRuntime) {
-    hold(&rt, "interrupts", interrupts::cases());
-    hold(&rt, "handlers", handlers::cases());
-    hold(&rt, "resets", resets::cases());
-}
-
-#[test]
-fn bus_errors(rt: HostRuntime) {
-    hold(&rt, "errors", errors::cases());
-}
-
-#[test]
-fn words_drawn_by_lot(rt: HostRuntime) {
-    hold(&rt, "programs", programs::cases());
-}
-
-#[test]
-fn as_many_cases_as_there_are(rt: HostRuntime) {
-    let tables = [
-        reading::cases(),
-        calls::cases(),
-        cycles::cases(),
-        arithmetic::cases(),
-        products::cases(),
-        branches::cases(),
-        jumps::cases(),
-        system::cases(),
-        user::cases(),
-        memory::cases(),
-        misplaced::cases(),
-        user_memory::cases(),
-        interrupts::cases(),
-        handlers::cases(),
-        resets::cases(),
-        errors::cases(),
-        programs::cases(),
-    ];
-    let mut count = 0usize;
-    for table in tables {
-        count = count.saturating_add(table.len());
-    }
-    assert_eq!(rt; count, 342);
-}
-
-/// A start, one cycle, and a field that fills the job up to a length.
-fn long_job(heap: Global, length: usize) -> Result<Vec<u8>, AllocError> {
-    let mut job = Vec::new(heap);
-    job.extend_from_slice(b"20\n40 0001\n")?;
-    job.resize(length, b'0')?;
-    Ok(job)
-}
-
-const FILLED: &str = "20\n40 0000000000000001 0000000000000000 0000000000000000\n\
-                      FF 03 00000003 00000000\n";
-
-const TOO_LONG: &str = "FF 01 00000000 00000000\n";
-
-#[test]
-fn the_longest_job(rt: HostRuntime) -> Result<(), Fail> {
+fn malformed_files(rt: HostRuntime) -> Result<(), Fail> {
     let heap = rt.alloc();
-    let job = long_job(heap, 65_536)?;
-    assert!(rt; holds(&job, FILLED.as_bytes()));
-    let job = long_job(heap, 65_537)?;
-    assert!(rt; holds(&job, TOO_LONG.as_bytes()));
-    let mut job = long_job(heap, 65_535)?;
-    job.push(b'\n')?;
-    assert!(rt; holds(&job, FILLED.as_bytes()));
-    let mut job = long_job(heap, 65_536)?;
-    job.push(b'\n')?;
-    assert!(rt; holds(&job, TOO_LONG.as_bytes()));
+    for (text, why) in [
+        ("> 20\n", "line 1: a line in front of the first case"),
+        ("case a\n20\n", "line 2: a line with no mark"),
+        ("case a\n20 < 20\n", "line 2: a line with no mark"),
+        ("case a\n= 2\n", "line 2: no kind behind ="),
+        ("case a\n> \"20\n", "line 2: a quote has no end"),
+        (
+            "case a\n> \"20\" x < 20\n",
+            "line 2: no number behind a quote",
+        ),
+        ("case a\n\n> \"\\0\"\n", "line 3: no two digits behind \\"),
+        ("case a\n\n> \"\\+F\"\n", "line 3: no two digits behind \\"),
+    ] {
+        match read(heap, text) {
+            Ok(_) => assert!(rt; false, "read: {text}"),
+            Err(error) => {
+                let told = format!(in heap; "{error:#}")?;
+                assert!(rt; told.as_str().starts_with(why), "{told}");
+            }
+        }
+    }
     Ok(())
 }
 

@@ -11,7 +11,7 @@ use Rattle.jobs.specs.Job.{GivesNext, AnswersLine, Standing, text_lines_of}
 use Rattle.jobs.specs.Station.{StationDoes, StageIsPromised, StageIsReached, Stage, stage_of_station}
 use Rattle.jobs.specs.declared.job.Job.{Job}
 use Rattle.jobs.specs.declared.station.Station.{Station}
-use Rattle.jobs.proofs.Decided.{heeds, shown}
+use Rattle.jobs.proofs.Decided.{answers_line, shown}
 use Rattle.jobs.proofs.Promised.{promised}
 use Rattle.text.specs.Line.{read_line}
 use Rattle.text.specs.declared.reply.Reply.{Reply}
@@ -207,11 +207,11 @@ module _ {B : Type 0} {means : B → Meaning} {steps : B → Request → Answer 
         exact = λ next decided.
             let done = goes pile no_history in
             let turn =
-            heeds settles cycles next decided (stage_of_station pile no_history st)
+            answers_line settles cycles next decided (stage_of_station pile no_history st)
             (stage_of_station done.0 done.1 after) x.number (read_line l) (r ∷ []) done.2 in
             let at = λ (e : Sight). line_answer next e x.number (read_line l) in
             let here : Sight = sight_of means pile x.processor in
-            let told : r ∷ [] ≡ (at here).reply =
+            let replied : r ∷ [] ≡ (at here).reply =
             turn.0 ∙ ap (λ e. (at e).reply) (sight_same pile no_history pile x.processor) in
             let then : sight_of means after.pile after.processor ≡ (at here).then =
             sym (sight_same done.0 done.1 after.pile after.processor) ∙ turn.1
@@ -221,7 +221,7 @@ module _ {B : Type 0} {means : B → Meaning} {steps : B → Request → Answer 
               | None ↦ []
             ])
             ∙ ap (replies_to_lines next here x.number) lines
-            ∙ sym (ap₂ (λ u v. u ++ replies_to_lines next v (x.number + 1) (text_lines_of y.lines.0.now)) told then)
+            ∙ sym (ap₂ (λ u v. u ++ replies_to_lines next v (x.number + 1) (text_lines_of y.lines.0.now)) replied then)
             ∙ sym (λ i. r ∷ (option_to_list (now i) ++ elim (still i) [
               | Some z ↦ replies_to_lines next (sight_of means z (chip i)) (number i) (text_lines_of y.lines.0.now)
               | None ↦ []

@@ -55,33 +55,33 @@ module _ {S : Type 0} {means : S → Meaning} {steps : S → Request → Answer 
       (h.1 ∙ ap (λ m. run_reply m.observed.report) all, all)
   late_does c d (reply_with q) r h = (h.0, ap (core_meaning means) h.1)
 
-  early_obeys : (s : S) (x : Result EarlyEffect JobFault) (r : Result Reply JobFault) (e : Stage S)
+  early_answers : (s : S) (x : Result EarlyEffect JobFault) (r : Result Reply JobFault) (e : Stage S)
       → EarlyAnswers means steps s x r e
       → (r ≡ (early_answer next (means s) x).reply) × (shown means e ≡ (early_answer next (means s) x).then)
-  early_obeys s (Err f) r e h = (h.0, ap (shown means) h.1)
-  early_obeys s (Ok x) r e h = early_does s x r e h
+  early_answers s (Err f) r e h = (h.0, ap (shown means) h.1)
+  early_answers s (Ok x) r e h = early_does s x r e h
 
-  late_obeys : (c d : Machine S) (x : Result LateEffect JobFault) (r : Result Reply JobFault)
+  late_answers : (c d : Machine S) (x : Result LateEffect JobFault) (r : Result Reply JobFault)
       → LateAnswers means steps c x r d
       → (r ≡ (late_answer next (core_meaning means c) x).reply)
       × (sight.running (core_meaning means d) ≡ (late_answer next (core_meaning means c) x).then)
-  late_obeys c d (Err f) r h = (h.0, ap (λ m. sight.running (core_meaning means m)) h.1)
-  late_obeys c d (Ok x) r h =
+  late_answers c d (Err f) r h = (h.0, ap (λ m. sight.running (core_meaning means m)) h.1)
+  late_answers c d (Ok x) r h =
       let done = late_does c d x h.0 h.2 in
       (h.1 ∙ ap Ok done.0, ap sight.running done.1)
 
-  obeys : (e g : Stage S) (o : Order) (r : Result Reply JobFault) → AnswersOrder means steps e o r g
+  answers_order : (e g : Stage S) (o : Order) (r : Result Reply JobFault) → AnswersOrder means steps e o r g
       → (r ≡ (order_answer next (shown means e) o).reply)
       × (shown means g ≡ (order_answer next (shown means e) o).then)
-  obeys (loading s) g o r h = early_obeys s (decision o).before r g h
-  obeys (running s c) g o r h =
-      let done = late_obeys c h.0 ((decision o).after c.processor c.observed.report) r h.1 in
+  answers_order (loading s) g o r h = early_answers s (decision o).before r g h
+  answers_order (running s c) g o r h =
+      let done = late_answers c h.0 ((decision o).after c.processor c.observed.report) r h.1 in
       (done.0, ap (shown means) h.2 ∙ done.1)
 
   -- what is done with a line is what the function says of it
-  pub heeds : (e g : Stage S) (n : ℕ) (o : Result Order LineFault) (rs : List Reply)
+  pub answers_line : (e g : Stage S) (n : ℕ) (o : Result Order LineFault) (rs : List Reply)
       → AnswersLine means steps e n o rs g
       → (rs ≡ (line_answer next (shown means e) n o).reply)
       × (shown means g ≡ (line_answer next (shown means e) n o).then)
-  heeds e g n (Err f) rs h = (h.0, ap (shown means) h.1)
-  heeds e g n (Ok o) rs h = let all = obeys e g o h.0 h.1 in (h.2 ∙ ap (line_replies n) all.0, all.1)
+  answers_line e g n (Err f) rs h = (h.0, ap (shown means) h.1)
+  answers_line e g n (Ok o) rs h = let all = answers_order e g o h.0 h.1 in (h.2 ∙ ap (line_replies n) all.0, all.1)

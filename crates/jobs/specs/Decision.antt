@@ -43,7 +43,7 @@ abbrev pub decision : Order → Decision
 decision (order.Load address word) =
     record { before = Ok (store address word); after = λ p counts. Err fault.AfterStart }
 decision order.Start = record { before = Ok power_up; after = λ p counts. Err fault.AfterStart }
-decision (order.Lines n) =
+decision (order.SetLines n) =
     record { before = Err fault.BeforeStart; after = λ p counts. effect_if_granted (λ u. set_lines n) (lines_reply n) }
 decision (order.Run n) =
     record {

@@ -4,10 +4,10 @@ ghost use Rattle.std.specs.Prelude.{◌≡◌, ◌+◌, ◌≤◌, length};
 ghost use Rattle.jobs.specs.Job.{text_lines_of};
 ghost use Rattle.jobs.specs.Limits.{max_job};
 
-use super::cut::Lines;
 use super::fault::JobFault;
 use super::limits::MAX_JOB;
-use super::station::{Station, denial};
+use super::station::{Station, denial_reply};
+use super::text_lines::TextLines;
 use bus::memory::Bus;
 use bus::settle::settles_as_decided;
 use r3000::decided::cycles_as_decided;
@@ -30,7 +30,7 @@ pub struct Job<'a, B> {
     processor: Option<Processor>,
     /// The number of the next line, from 1.
     number: u32,
-    lines: Lines<'a>,
+    lines: TextLines<'a>,
     ghost few: { number + length (text_lines_of lines.0.now) ≤ max_job + 1 },
 }
 
@@ -50,11 +50,11 @@ impl<'a, B: Bus> Job<'a, B> {
     {
         let too_long = bytes.len() > MAX_JOB;
         Job {
-            due: too_long.then_some(denial(0, JobFault::TooLong)),
+            due: too_long.then_some(denial_reply(0, JobFault::TooLong)),
             pile: Some(pile),
             processor: None,
             number: 1,
-            lines: Lines(if too_long { &[] } else { bytes }),
+            lines: TextLines(if too_long { &[] } else { bytes }),
         }
     }
 }
@@ -82,7 +82,7 @@ impl<'a, B: Bus + Drop> Iterator for Job<'a, B> {
             pile: self.pile.take()?,
             processor: self.processor,
         };
-        let (station, reply) = station.heed(self.number, line);
+        let (station, reply) = station.answer_line(self.number, line);
         self.pile = Some(station.pile);
         self.processor = station.processor;
         self.number += 1;

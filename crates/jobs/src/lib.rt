@@ -2,9 +2,9 @@
 
 #![tactic(auto)]
 
-mod cut;
 pub mod fault;
 pub mod job;
 pub mod limits;
 pub mod station;
+mod text_lines;
 pub mod whole;

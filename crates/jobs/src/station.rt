@@ -53,7 +53,7 @@ fn load<B: Bus>(pile: &mut B, address: u32, word: u32) -> Result<Reply, JobFault
 }
 
 /// The reply to a run, which tells three counts of its report.
-fn ran(report: Report) -> Reply
+fn run_reply(report: Report) -> Reply
     ensures { result ≡ run_reply report }
 {
     Reply::Ran(Counts {
@@ -64,7 +64,7 @@ fn ran(report: Report) -> Reply
 }
 
 /// The reply to a denied line.
-pub(crate) fn denial(line: u32, fault: JobFault) -> Reply
+pub(crate) fn denial_reply(line: u32, fault: JobFault) -> Reply
     ensures { result ≡ denial_reply line fault }
 {
     Reply::Denied(Denied {
@@ -75,7 +75,7 @@ pub(crate) fn denial(line: u32, fault: JobFault) -> Reply
 }
 
 /// An order before the start.
-fn early<B: Bus>(mut pile: B, order: Order) -> (Station<B>, Result<Reply, JobFault>)
+fn before_start<B: Bus>(mut pile: B, order: Order) -> (Station<B>, Result<Reply, JobFault>)
     ensures { EarlyAnswers B.Bus.means B.Bus.steps pile (decision order).before result.1
         (stage_of_station pile no_history result.0) }
 {
@@ -85,14 +85,14 @@ fn early<B: Bus>(mut pile: B, order: Order) -> (Station<B>, Result<Reply, JobFau
             (Station::loading(pile), reply)
         }
         Order::Start => (Station::running(Core::new(pile)), Ok(Reply::Started)),
-        Order::Lines(_) | Order::Run(_) | Order::Show(_) => {
+        Order::SetLines(_) | Order::Run(_) | Order::Show(_) => {
             (Station::loading(pile), Err(JobFault::BeforeStart))
         }
     }
 }
 
 /// An order after the start.
-fn late<B: Bus>(core: &mut Core<B>, order: Order) -> Result<Reply, JobFault>
+fn after_start<B: Bus>(core: &mut Core<B>, order: Order) -> Result<Reply, JobFault>
     ensures { Happens B.Bus.means B.Bus.steps
         (λ c d. LateAnswers B.Bus.means B.Bus.steps c ((decision order).after c.processor c.observed.report) result d)
         core.old core.new }
@@ -100,11 +100,11 @@ fn late<B: Bus>(core: &mut Core<B>, order: Order) -> Result<Reply, JobFault>
     promise::<B>();
     match order {
         Order::Load(_, _) | Order::Start => Err(JobFault::AfterStart),
-        Order::Lines(lines) => {
+        Order::SetLines(lines) => {
             core.lines(lines)?;
             Ok(Reply::Set)
         }
-        Order::Run(count) => Ok(ran(core.run(u32::from(count))?)),
+        Order::Run(count) => Ok(run_reply(core.run(u32::from(count))?)),
         Order::Show(number) => Ok(Reply::Shown(number, core.register(number)?)),
     }
 }
@@ -132,30 +132,33 @@ impl<B: Bus> Station<B> {
     }
 
     /// Does what a line asks for.
-    fn obey(self, order: Order) -> (Station<B>, Result<Reply, JobFault>)
+    fn do_order(self, order: Order) -> (Station<B>, Result<Reply, JobFault>)
         ensures { StationDoes B.Bus.means B.Bus.steps (λ e f. AnswersOrder B.Bus.means B.Bus.steps e order result.1 f)
             self result.0 }
     {
         promise::<B>();
         let Some(processor) = self.processor else {
-            return early(self.pile, order);
+            return before_start(self.pile, order);
         };
         let mut core = Core::from_parts(processor, self.pile);
-        let reply = late(&mut core, order);
+        let reply = after_start(&mut core, order);
         (Station::running(core), reply)
     }
 
     /// A line, and its reply.
-    pub(crate) fn heed(self, number: u32, line: &[u8]) -> (Station<B>, Reply)
+    pub(crate) fn answer_line(self, number: u32, line: &[u8]) -> (Station<B>, Reply)
         ensures { StationDoes B.Bus.means B.Bus.steps
             (λ e f. AnswersLine B.Bus.means B.Bus.steps e number (read_line line.now) (result.1 ∷ []) f) self
             result.0 }
     {
         promise::<B>();
         let (station, end) = match read(line) {
-            Ok(order) => self.obey(order),
+            Ok(order) => self.do_order(order),
             Err(fault) => (self, Err(JobFault::Line(fault))),
         };
-        (station, end.unwrap_or_else(|fault| denial(number, fault)))
+        (
+            station,
+            end.unwrap_or_else(|fault| denial_reply(number, fault)),
+        )
     }
 }

@@ -1,1 +1,1 @@
-pub mod Keeps
+mod Keeps

@@ -21,16 +21,16 @@ unfolding filled
 filled_length at zero d bs = refl
 filled_length at (suc n) d bs = length-set (filled at n d bs) (at + n) (d / 256 ^ n % 256) ∙ filled_length at n d bs
 
-held-set_same : (base : ℕ) (bs : List ℕ) (i v x : ℕ) → i < length bs → x ≡ base + i
+byte_at-set_same : (base : ℕ) (bs : List ℕ) (i v x : ℕ) → i < length bs → x ≡ base + i
     → byte_at base (set bs i v) x ≡ v % 256
-held-set_same base bs i v x h e =
+byte_at-set_same base bs i v x h e =
     let at : x - base ≡ i = omega arith in
     let past : leb base x ≡ true = le-leb base x (omega arith) in
     rw (past, at, get_or-set_same bs i v 0 h)
 
-held-set_other : (base : ℕ) (bs : List ℕ) (i v x : ℕ) → (x ≡ base + i → ⊥)
+byte_at-set_other : (base : ℕ) (bs : List ℕ) (i v x : ℕ) → (x ≡ base + i → ⊥)
     → byte_at base (set bs i v) x ≡ byte_at base bs x
-held-set_other base bs i v x h = go (leb base x) refl
+byte_at-set_other base bs i v x h = go (leb base x) refl
   where
     go : (b : Bool) → leb base x ≡ b → byte_at base (set bs i v) x ≡ byte_at base bs x
     go false e = rw e
@@ -39,14 +39,14 @@ held-set_other base bs i v x h = go (leb base x) refl
         let ne : x - base ≢ i = omega arith in
         rw (get_or-set_other bs i (x - base) v 0 ne)
 
-pub held-filled : (base : ℕ) (bs : List ℕ) (at n d x : ℕ) → at + n ≤ length bs
+pub byte_at-filled : (base : ℕ) (bs : List ℕ) (at n d x : ℕ) → at + n ≤ length bs
     → byte_at base (filled at n d bs) x ≡ stored_byte (base + at) n d (byte_at base bs) x
 unfolding filled
-held-filled base bs at zero d x h =
+byte_at-filled base bs at zero d x h =
     let none : (leb (base + at) x && ltb x (base + at + 0)) ≡ false = grind (arith, nat_tests) in
     rw none
-held-filled base bs at (suc n) d x h =
-    next (held-filled base bs at n d x (omega arith)) (cases_eq x (base + (at + n)))
+byte_at-filled base bs at (suc n) d x h =
+    next (byte_at-filled base bs at n d x (omega arith)) (cases_eq x (base + (at + n)))
   where
     before : List ℕ
     before = filled at n d bs
@@ -61,7 +61,7 @@ held-filled base bs at (suc n) d x h =
         let fits : at + n < length before = omega (arith, filled_length at n d bs) in
         let within : (leb (base + at) x && ltb x (base + at + suc n)) ≡ true = grind (arith, nat_tests) in
         let place : x - (base + at) ≡ n = omega arith in
-        held-set_same base before (at + n) (d / 256 ^ n % 256) x fits e ∙ rw (within, place) (omega arith)
+        byte_at-set_same base before (at + n) (d / 256 ^ n % 256) x fits e ∙ rw (within, place) (omega arith)
 
     level : (x ≡ base + (at + n) → ⊥)
         → (leb (base + at) x && ltb x (base + at + suc n)) ≡ (leb (base + at) x && ltb x (base + at + n))
@@ -69,7 +69,7 @@ held-filled base bs at (suc n) d x h =
 
     other : byte_at base before x ≡ stored_byte (base + at) n d (byte_at base bs) x → (x ≡ base + (at + n) → ⊥) → Goal
     other rest ne =
-        held-set_other base before (at + n) (d / 256 ^ n % 256) x ne ∙ rw (level ne) rest
+        byte_at-set_other base before (at + n) (d / 256 ^ n % 256) x ne ∙ rw (level ne) rest
 
     next : byte_at base before x ≡ stored_byte (base + at) n d (byte_at base bs) x
         → (x ≡ base + (at + n)) ⊎ (x ≡ base + (at + n) → ⊥) → Goal
@@ -108,5 +108,5 @@ moves base address d at start w bs out got from fits is =
       based = refl;
       sized = rw is (filled_length start (byte_count w) d bs);
       answered = rw inner refl;
-      holds = λ x. rw (is, inner, ← from) (held-filled base bs start (byte_count w) d x fits);
+      holds = λ x. rw (is, inner, ← from) (byte_at-filled base bs start (byte_count w) d x fits);
     }

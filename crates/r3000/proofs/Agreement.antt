@@ -55,7 +55,7 @@ module _ {S : Type 0} {means : S → Meaning} {steps : S → Request → Answer 
     (keeps : Keeps means steps) (start : S) where
   -- the book after the boundaries of a history
   abbrev book : History → Book
-  book h = book_after (means start) h.lines
+  book h = book_after (means start) h.boundary_lines
 
   -- the core is as many ticks past where the microprogram stood at the book's state as its place says, and the lines
   -- do not matter
@@ -66,9 +66,9 @@ module _ {S : Type 0} {means : S → Meaning} {steps : S → Request → Answer 
     pub stands : Stands (book h) from
     pub ticked : (l : ℕ) → world below.memory keeps c ≡ ticks (refusals (means start)) l c.observed.report.place from
     pub short : c.observed.report.place < length_of (book h) (book h).event
-    pub boundaries : length h.lines ≡ c.observed.report.boundaries
+    pub boundaries : length h.boundary_lines ≡ c.observed.report.boundaries
     pub sum : c.observed.report.cycles
-        ≡ c.observed.report.frozen + total_length (means start) h.lines + c.observed.report.place
+        ≡ c.observed.report.frozen + total_length (means start) h.boundary_lines + c.observed.report.place
 
   pub way_start : OnTheWay no_history (core_at_power_up start)
   unfolding ticks
@@ -109,7 +109,7 @@ module _ {S : Type 0} {means : S → Meaning} {steps : S → Request → Answer 
 
   -- a frozen cycle leaves the core where it is
   way_frozen : (h : History) (c d : Machine S) → Cycle steps c true d → OnTheWay h c
-      → OnTheWay (record { lines = h.lines; since = h.since + 1 }) d
+      → OnTheWay (record { boundary_lines = h.boundary_lines; since = h.since + 1 }) d
   way_frozen h c d k w =
       record {
         refuses = still_refuses h c d true k w;
@@ -122,7 +122,7 @@ module _ {S : Type 0} {means : S → Meaning} {steps : S → Request → Answer 
         short = subst (λ n. n.place < length_of (book h) (book h).event) (sym (report_of k)) w.short;
         boundaries = w.boundaries ∙ ap (λ n. n.boundaries) (sym (report_of k));
         sum =
-            subst (λ n. n.cycles ≡ n.frozen + total_length (means start) h.lines + n.place) (sym (report_of k))
+            subst (λ n. n.cycles ≡ n.frozen + total_length (means start) h.boundary_lines + n.place) (sym (report_of k))
             (omega (arith, w.sum));
       }
 
@@ -140,7 +140,7 @@ module _ {S : Type 0} {means : S → Meaning} {steps : S → Request → Answer 
   -- an unfrozen cycle within a step
   way_on : (h : History) (c d : Machine S) → Cycle steps c false d
       → ends_path (current_row c.processor.state).sequencing ≡ false → OnTheWay h c
-      → OnTheWay (record { lines = h.lines; since = h.since + 1 }) d
+      → OnTheWay (record { boundary_lines = h.boundary_lines; since = h.since + 1 }) d
   way_on h c d k e w =
       let n : ℕ = c.observed.report.place in
       let count : d.observed.report
@@ -167,7 +167,7 @@ module _ {S : Type 0} {means : S → Meaning} {steps : S → Request → Answer 
             (further (cases_eq (n + 1) (length_of (book h) (book h).event)));
         boundaries = w.boundaries ∙ ap (λ m. m.boundaries) (sym count);
         sum =
-            subst (λ m. m.cycles ≡ m.frozen + total_length (means start) h.lines + m.place) (sym count)
+            subst (λ m. m.cycles ≡ m.frozen + total_length (means start) h.boundary_lines + m.place) (sym count)
             (omega (arith, w.sum));
       }
     where
@@ -181,7 +181,7 @@ module _ {S : Type 0} {means : S → Meaning} {steps : S → Request → Answer 
   -- an unfrozen cycle that ends it: a boundary
   way_over : (h : History) (c d : Machine S) → Cycle steps c false d
       → ends_path (current_row c.processor.state).sequencing ≡ true → OnTheWay h c
-      → OnTheWay (record { lines = c.processor.lines ∷ h.lines; since = 0 }) d
+      → OnTheWay (record { boundary_lines = c.processor.lines ∷ h.boundary_lines; since = 0 }) d
   unfolding ticks
   way_over h c d k e w =
       let n : ℕ = c.observed.report.place in
@@ -222,7 +222,7 @@ module _ {S : Type 0} {means : S → Meaning} {steps : S → Request → Answer 
             (step (refusals (means start)) c.processor.lines (book h)).event);
         boundaries = ap suc w.boundaries ∙ sym (add-one _) ∙ ap (λ m. m.boundaries) (sym count);
         sum =
-            subst (λ m. m.cycles ≡ m.frozen + total_length (means start) (c.processor.lines ∷ h.lines) + m.place)
+            subst (λ m. m.cycles ≡ m.frozen + total_length (means start) (c.processor.lines ∷ h.boundary_lines) + m.place)
             (sym count) (omega (arith, w.sum));
       }
     where
@@ -243,8 +243,8 @@ module _ {S : Type 0} {means : S → Meaning} {steps : S → Request → Answer 
     where
       by : (e : Bool) → ends_path (current_row c.processor.state).sequencing ≡ e
           → OnTheWay
-          (cond {A = History} e (record { lines = c.processor.lines ∷ c.observed.history.lines; since = 0 })
-          (record { lines = c.observed.history.lines; since = c.observed.history.since + 1 })) d
+          (cond {A = History} e (record { boundary_lines = c.processor.lines ∷ c.observed.history.boundary_lines; since = 0 })
+          (record { boundary_lines = c.observed.history.boundary_lines; since = c.observed.history.since + 1 })) d
       by true e = way_over c.observed.history c d k e w
       by false e = way_on c.observed.history c d k e w
 

@@ -57,39 +57,39 @@ module _ {S : Type 0} {means : S → Meaning} {steps : S → Request → Answer 
       → (a ≡ option_map (answer (stilled (means s))) o) × ((means t).byte ≡ bytes_after (stilled (means s)) o)
   unfrozen s t None a h e = (h.0, ap (λ p. (means p).byte) h.1)
   unfrozen s t (Some q) a h e = (
-    h.1 ∙ ap Some (told.answered ∙ answers_still (means s) q free),
-    fun_ext (λ x. told.bytes x ∙ bytes_still memory (means s) q free x),
+    h.1 ∙ ap Some (answers.answered ∙ answers_still (means s) q free),
+    fun_ext (λ x. answers.bytes x ∙ bytes_still memory (means s) q free x),
   )
     where
-      told : Answers (means s) q h.0 (means t)
-      told = keeps.tells s q h.0 t h.2
+      answers : Answers (means s) q h.0 (means t)
+      answers = keeps.tells s q h.0 t h.2
 
       free : is_stalled (means s) q ≡ false
-      free = sym (stalls (means s) q) ∙ sym (e ∙ ap is_wait (h.1 ∙ ap Some told.answered))
+      free = sym (stalls (means s) q) ∙ sym (e ∙ ap is_wait (h.1 ∙ ap Some answers.answered))
 
   -- one that was answered by wait
   pub frozen : (s t : S) (o : Option Request) (a : Option Answer) → Asks steps s o a t → true ≡ is_wait a
       → ((means t).byte ≡ (means s).byte) × (waiting (means t) o + 1 ≡ waiting (means s) o)
   frozen s t None a h e = absurd (true≢false (e ∙ ap is_wait h.0))
-  frozen s t (Some q) a h e = (fun_ext (λ x. told.bytes x ∙ bytes_stay (means s) q held x), told.counted held)
+  frozen s t (Some q) a h e = (fun_ext (λ x. answers.bytes x ∙ bytes_stay (means s) q waits x), answers.counted waits)
     where
-      told : Answers (means s) q h.0 (means t)
-      told = keeps.tells s q h.0 t h.2
+      answers : Answers (means s) q h.0 (means t)
+      answers = keeps.tells s q h.0 t h.2
 
-      held : is_stalled (means s) q ≡ true
-      held = sym (stalls (means s) q) ∙ sym (e ∙ ap is_wait (h.1 ∙ ap Some told.answered))
+      waits : is_stalled (means s) q ≡ true
+      waits = sym (stalls (means s) q) ∙ sym (e ∙ ap is_wait (h.1 ∙ ap Some answers.answered))
 
   -- what is refused, and W, stay
   pub fixed : (s t : S) (o : Option Request) (a : Option Answer) → Asks steps s o a t
       → (refusals (means t) ≡ refusals (means s)) × ((means t).longest ≡ (means s).longest)
   fixed s t None a h = (ap (λ p. refusals (means p)) h.1, ap (λ p. (means p).longest) h.1)
   fixed s t (Some q) a h = (
-    ap₂ (λ u w. record { unreadable = u; unwritable = w }) (fun_ext told.unreadable) (fun_ext told.unwritable),
-    told.longest,
+    ap₂ (λ u w. record { unreadable = u; unwritable = w }) (fun_ext answers.unreadable) (fun_ext answers.unwritable),
+    answers.longest,
   )
     where
-      told : Answers (means s) q h.0 (means t)
-      told = keeps.tells s q h.0 t h.2
+      answers : Answers (means s) q h.0 (means t)
+      answers = keeps.tells s q h.0 t h.2
 
   -- processor and bytes of a core
   abbrev pub world : Machine S → World

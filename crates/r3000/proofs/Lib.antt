@@ -1,10 +1,10 @@
 mod Agreement
 mod Answered
 mod Below
+mod CallList
 mod DecidedCycles
 mod Law
 mod Parts
-mod Played
 mod Promptness
 mod Successors
 mod Tests

@@ -179,8 +179,8 @@ module _ {S : Type 0} {means : S → Meaning} {steps : S → Request → Answer 
     where
       by : (e : Bool) → ends_path (current_row c.processor.state).sequencing ≡ e
           → Soon
-          (cond {A = History} e (record { lines = c.processor.lines ∷ c.observed.history.lines; since = 0 })
-          (record { lines = c.observed.history.lines; since = c.observed.history.since + 1 })).since d
+          (cond {A = History} e (record { boundary_lines = c.processor.lines ∷ c.observed.history.boundary_lines; since = 0 })
+          (record { boundary_lines = c.observed.history.boundary_lines; since = c.observed.history.since + 1 })).since d
       by true e = soon_over c.observed.history.since c d k near
       by false e = soon_on c.observed.history.since c d k e near
 

@@ -1,3 +1,4 @@
+pub mod CallList
 pub mod Calls
 pub mod Core
 pub mod Counts
@@ -6,6 +7,5 @@ pub mod Decided
 pub mod Denial
 pub mod Limits
 pub mod Machine
-pub mod Played
 pub mod Promise
 pub mod Reached

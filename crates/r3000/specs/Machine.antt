@@ -9,11 +9,11 @@ use Rattle.rows.specs.declared.row.Row.{Row}
 -- what a core has behind it: the lines that stood at each boundary, the newest first, and the granted cycles since
 -- the last
 pub record History : Type 0 where
-  pub lines : List ℕ
+  pub boundary_lines : List ℕ
   pub since : ℕ
 
 abbrev pub no_history : History
-no_history = record { lines = []; since = 0 }
+no_history = record { boundary_lines = []; since = 0 }
 
 -- a processor: its state, which cycles change, and the lines as they stand now
 pub record Cpu : Type 0 where
@@ -51,7 +51,7 @@ is_boundary c frozen = not frozen && ends_path (current_row c).sequencing
 -- the history after a cycle: a boundary keeps the lines that stand, and the granted cycles are counted anew
 abbrev pub history_after : Cpu → Bool → History → History
 history_after p frozen h =
-    cond (is_boundary p.state frozen) (record { lines = p.lines ∷ h.lines; since = 0 })
+    cond (is_boundary p.state frozen) (record { boundary_lines = p.lines ∷ h.boundary_lines; since = 0 })
     (record h { since = h.since + 1 })
 
 -- what is observed after a cycle

@@ -47,13 +47,13 @@ IsUp s f = s.flag ≡ Some f
 -- the promise, of a core that began on a pile
 pub record Promise {S : Type 0} (means : S → Meaning) (start : S) (c : Machine S) : Type 0 where
   -- the history has a step for each boundary that is reported
-  pub boundaries : length c.observed.history.lines ≡ c.observed.report.boundaries
+  pub boundaries : length c.observed.history.boundary_lines ≡ c.observed.report.boundaries
   -- agreement: at each boundary, where the place is 0
   pub agreement : c.observed.report.place ≡ 0
-      → Agrees (book_after (means start) c.observed.history.lines) c.processor.state (means c.pile)
+      → Agrees (book_after (means start) c.observed.history.boundary_lines) c.processor.state (means c.pile)
   -- sum
   pub sum : c.observed.report.cycles
-      ≡ c.observed.report.frozen + total_length (means start) c.observed.history.lines + c.observed.report.place
+      ≡ c.observed.report.frozen + total_length (means start) c.observed.history.boundary_lines + c.observed.report.place
   -- promptness: the latest granted cycle after a boundary, or after power-up, is not made without a boundary
   pub promptness : c.observed.history.since < latest_boundary (means start)
   -- register 0 is zero, and at most one flag is up (of which the flag's type leaves no more)

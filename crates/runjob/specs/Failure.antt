@@ -13,6 +13,6 @@ text_of (Write e) = codes "cannot write the replies"
 
 -- the failure's text alone, or, where the system refused, over one cause, whose words are the system's to choose
 abbrev pub Tells : Failure → Error → Type 0
-Tells Memory told = IsMadeOf (Some (text_of Memory)) told
-Tells (Read e) told = IsContextOn (IsMadeOf None) (Some (text_of (Read e))) told
-Tells (Write e) told = IsContextOn (IsMadeOf None) (Some (text_of (Write e))) told
+Tells Memory error = IsMadeOf (Some (text_of Memory)) error
+Tells (Read e) error = IsContextOn (IsMadeOf None) (Some (text_of (Read e))) error
+Tells (Write e) error = IsContextOn (IsMadeOf None) (Some (text_of (Write e))) error

@@ -40,7 +40,7 @@ impl From<AllocError> for Failure {
 
 impl Failure {
     /// The failure as the program tells it, with the system's own words for why.
-    pub fn told(self) -> anyhow::Error
+    pub fn into_error(self) -> anyhow::Error
         ensures { Tells self result }
     {
         match self {

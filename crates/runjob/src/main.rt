@@ -17,5 +17,5 @@ const RETRIES: u32 = 1_000;
 
 fn main(rt: HostRuntime) -> anyhow::Result<()> {
     let (mut reader, mut writer) = (rt.reader(), io::writer(&rt));
-    run::run(rt.alloc(), &mut reader, &mut writer).map_err(Failure::told)
+    run::run(rt.alloc(), &mut reader, &mut writer).map_err(Failure::into_error)
 }

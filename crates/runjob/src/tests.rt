@@ -148,23 +148,26 @@ fn writers_that_fail(rt: HostRuntime) {
 }
 
 #[test]
-fn failures_told(rt: HostRuntime) -> Result<(), Fail> {
+fn failures_as_errors(rt: HostRuntime) -> Result<(), Fail> {
     let heap = rt.alloc();
-    let told = Failure::Memory.told();
-    assert_eq!(rt; format!(in heap; "{told}")?.as_str(), "out of memory");
-    let told = Failure::Read(ErrorKind::TimedOut.into()).told();
-    assert_eq!(rt; format!(in heap; "{told}")?.as_str(), "cannot read the job");
+    let error = Failure::Memory.into_error();
+    assert_eq!(rt; format!(in heap; "{error}")?.as_str(), "out of memory");
+    let error = Failure::Read(ErrorKind::TimedOut.into()).into_error();
     assert_eq!(rt;
-        format!(in heap; "{told:#}")?.as_str(),
+        format!(in heap; "{error}")?.as_str(),
+        "cannot read the job"
+    );
+    assert_eq!(rt;
+        format!(in heap; "{error:#}")?.as_str(),
         "cannot read the job: timed out"
     );
-    let told = Failure::Write(ErrorKind::BrokenPipe.into()).told();
+    let error = Failure::Write(ErrorKind::BrokenPipe.into()).into_error();
     assert_eq!(rt;
-        format!(in heap; "{told}")?.as_str(),
+        format!(in heap; "{error}")?.as_str(),
         "cannot write the replies"
     );
     assert_eq!(rt;
-        format!(in heap; "{told:#}")?.as_str(),
+        format!(in heap; "{error:#}")?.as_str(),
         "cannot write the replies: broken pipe"
     );
     Ok(())

@@ -1,13 +1,13 @@
 -- The numbers of the form that lines and replies have. Assumes nothing.
 use Rattle.std.specs.Prelude.{ℕ}
 use Rattle.text.specs.declared.order.Kind.{Kind}
-use Rattle.text.specs.declared.order.Kind.TheVariants.{Load, Start, Lines, Run, Show}
+use Rattle.text.specs.declared.order.Kind.TheVariants.{Load, Start, SetLines, Run, Show}
 
 -- the codes of the kinds of line, with which their replies begin too
 abbrev pub code_of : Kind → ℕ
 code_of Load = 0x10
 code_of Start = 0x20
-code_of Lines = 0x30
+code_of SetLines = 0x30
 code_of Run = 0x40
 code_of Show = 0x50
 

@@ -37,7 +37,7 @@ value_of (b ∷ bs) = digit_value b * 16 ^ length bs + value_of bs
 abbrev pub kind_at : ℕ → Option Kind
 kind_at v =
     cond (v == code_of kind.Load) (Some kind.Load) (cond (v == code_of kind.Start) (Some kind.Start)
-    (cond (v == code_of kind.Lines) (Some kind.Lines) (cond (v == code_of kind.Run) (Some kind.Run)
+    (cond (v == code_of kind.SetLines) (Some kind.SetLines) (cond (v == code_of kind.Run) (Some kind.Run)
     (cond (v == code_of kind.Show) (Some kind.Show) None))))
 
 -- a first field of any other width is no kind
@@ -48,7 +48,7 @@ kind_of f = cond (length f == code_width) (kind_at (value_of f)) None
 abbrev pub widths : Kind → List ℕ
 widths kind.Load = word_width ∷ word_width ∷ []
 widths kind.Start = []
-widths kind.Lines = byte_width ∷ []
+widths kind.SetLines = byte_width ∷ []
 widths kind.Run = run_width ∷ []
 widths kind.Show = byte_width ∷ []
 
@@ -63,7 +63,7 @@ fields_fit (w ∷ ws) (f ∷ fs) = length f == w && fields_fit ws fs
 abbrev pub order_of : Kind → List ℕ → Order
 order_of kind.Load vs = order.Load (slice_index vs 0) (slice_index vs 1)
 order_of kind.Start vs = order.Start
-order_of kind.Lines vs = order.Lines (slice_index vs 0)
+order_of kind.SetLines vs = order.SetLines (slice_index vs 0)
 order_of kind.Run vs = order.Run (slice_index vs 0)
 order_of kind.Show vs = order.Show (slice_index vs 0)
 

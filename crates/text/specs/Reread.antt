@@ -30,7 +30,7 @@ abbrev pub reply_with_code : ℕ → List (List ℕ) → Option Reply
 reply_with_code k fs =
     cond (k == code_of kind.Load) (reply_where_fit [] fs Loaded)
     (cond (k == code_of kind.Start) (reply_where_fit [] fs Started)
-    (cond (k == code_of kind.Lines) (reply_where_fit [] fs Set)
+    (cond (k == code_of kind.SetLines) (reply_where_fit [] fs Set)
     (cond (k == code_of kind.Run) (reply_where_fit (count_width ∷ count_width ∷ count_width ∷ []) fs (counts_reply fs))
     (cond (k == code_of kind.Show)
     (reply_where_fit (byte_width ∷ word_width ∷ []) fs (Shown (field_value fs 0) (field_value fs 1)))

@@ -33,7 +33,7 @@ code_field code = (code_width, code)
 abbrev pub reply_fields : Reply → List Field
 reply_fields Loaded = code_field (code_of kind.Load) ∷ []
 reply_fields Started = code_field (code_of kind.Start) ∷ []
-reply_fields Set = code_field (code_of kind.Lines) ∷ []
+reply_fields Set = code_field (code_of kind.SetLines) ∷ []
 reply_fields (Ran n) = code_field (code_of kind.Run) ∷ fields_of_counts n
 reply_fields (Shown r w) = code_field (code_of kind.Show) ∷ (byte_width, r) ∷ (word_width, w) ∷ []
 reply_fields (Denied d) = code_field denial_code ∷ fields_of_denial d

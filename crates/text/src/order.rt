@@ -11,7 +11,7 @@ use super::fault::LineFault;
 pub enum Kind {
     Load = 0x10,
     Start = 0x20,
-    Lines = 0x30,
+    SetLines = 0x30,
     Run = 0x40,
     Show = 0x50,
 }
@@ -24,10 +24,16 @@ impl TryFrom<u8> for Kind {
     ghost try_from_gives = { λ code r. r ≡ ok_or (kind_at code) Unknown };
 
     fn try_from(code: u8) -> Result<Kind, LineFault> {
-        [Kind::Load, Kind::Start, Kind::Lines, Kind::Run, Kind::Show]
-            .into_iter()
-            .find(|kind| code == *kind as u8)
-            .ok_or(LineFault::Unknown)
+        [
+            Kind::Load,
+            Kind::Start,
+            Kind::SetLines,
+            Kind::Run,
+            Kind::Show,
+        ]
+        .into_iter()
+        .find(|kind| code == *kind as u8)
+        .ok_or(LineFault::Unknown)
     }
 }
 
@@ -37,7 +43,8 @@ pub enum Order {
     /// An address and a word.
     Load(u32, u32),
     Start,
-    Lines(u8),
+    /// The interrupt lines and the reset line.
+    SetLines(u8),
     Run(u16),
     /// The number of a register.
     Show(u8),

@@ -50,7 +50,7 @@ fn order(kind: Kind, others: [Option<&[u8]>; 3]) -> Option<Order>
             Some(Order::Load(number::<WORD_WIDTH>(address)?, number::<WORD_WIDTH>(word)?))
         }
         (Kind::Start, [None, ..]) => Some(Order::Start),
-        (Kind::Lines, [Some(lines), None, _]) => Some(Order::Lines(
+        (Kind::SetLines, [Some(lines), None, _]) => Some(Order::SetLines(
             number::<BYTE_WIDTH>(lines)? as u8,
         )),
         (Kind::Run, [Some(count), None, _]) => Some(Order::Run(number::<RUN_WIDTH>(count)? as u16)),

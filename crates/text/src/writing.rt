@@ -84,7 +84,7 @@ pub fn text(reply: Reply) -> Text
     match reply {
         Reply::Loaded => line_of(Kind::Load as u64, &[]),
         Reply::Started => line_of(Kind::Start as u64, &[]),
-        Reply::Set => line_of(Kind::Lines as u64, &[]),
+        Reply::Set => line_of(Kind::SetLines as u64, &[]),
         Reply::Ran(counts) => line_of(Kind::Run as u64, &of_counts(counts)),
         Reply::Shown(register, word) => {
             let register = (BYTE_WIDTH, u64::from(register));

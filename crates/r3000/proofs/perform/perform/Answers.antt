@@ -3,11 +3,11 @@ use Rattle.std.proofs.Common.{subst₂, arith}
 use Rattle.std.proofs.lemmas.List.{drop-set-lt, take_all, take_more, take_more_set}
 use Rattle.r3000.specs.Core.{machine_of}
 use Rattle.r3000.specs.Machine.{core_at_power_up, no_history}
-use Rattle.r3000.specs.Played.{MakesCalls}
+use Rattle.r3000.specs.CallList.{MakesCalls}
 use Rattle.r3000.specs.Promise.{IsPromised}
 use Rattle.r3000.specs.declared.call.Call.TheVariants as call
 use Rattle.r3000.specs.declared.call.Exchange.{Exchange}
-use Rattle.r3000.proofs.Played.{plays_more, same_rest}
+use Rattle.r3000.proofs.CallList.{plays_more, same_rest}
 use Rattle.r3000.proofs.perform.perform.Goals as goal
 
 pub loop-exchange-init : goal.loop-exchange-init

@@ -1,7 +1,7 @@
 use Rattle.std.proofs.Common.{◌≡◌, drop, take}
 use Rattle.r3000.specs.Core.{machine_of}
 use Rattle.r3000.specs.Machine.{History, core_at_power_up}
-use Rattle.r3000.specs.Played.{MakesCalls}
+use Rattle.r3000.specs.CallList.{MakesCalls}
 use Rattle.r3000.specs.Promise.{IsPromised}
 use Rattle.r3000.specs.Reached.{IsReached}
 use Rattle.r3000.proofs.perform.perform.Given as goal

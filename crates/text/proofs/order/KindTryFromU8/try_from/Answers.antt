@@ -9,12 +9,12 @@ use Rattle.std.specs.Option.{ok_or}
 use Rattle.text.specs.Form.{code_of}
 use Rattle.text.specs.declared.fault.LineFault.TheVariants.{Unknown}
 use Rattle.text.specs.declared.order.Kind.{Kind}
-use Rattle.text.specs.declared.order.Kind.TheVariants.{Load, Start, Lines, Run, Show}
+use Rattle.text.specs.declared.order.Kind.TheVariants.{Load, Start, SetLines, Run, Show}
 use Rattle.text.specs.Line.{kind_at}
 use Rattle.text.proofs.order.KindTryFromU8.try_from.Goals as goal
 
 abbrev kinds : List Kind
-kinds = Load ∷ Start ∷ Lines ∷ Run ∷ Show ∷ []
+kinds = Load ∷ Start ∷ SetLines ∷ Run ∷ Show ∷ []
 
 found : (n : ℕ) → find (λ k. eqb n (code_of k)) kinds ≡ kind_at n
 found n = refl

@@ -1,0 +1,84 @@
+//! Running the cases of a file, and telling what came of them.
+
+use super::case::{Case, holds};
+use super::reading::read;
+use anyhow::{Context, Result};
+use pile::job::Memories;
+use replies::Replies;
+use std::rt::Files;
+use std::{fs, io, str};
+use text::writing::text;
+
+/// How many cases there were, and how many of them differ.
+#[derive(Clone, Copy, Default)]
+pub struct Tally {
+    pub cases: u64,
+    pub differ: u64,
+}
+
+impl Tally {
+    /// With those of another.
+    pub fn with(self, other: Tally) -> Tally {
+        Tally {
+            cases: self.cases.saturating_add(other.cases),
+            differ: self.differ.saturating_add(other.differ),
+        }
+    }
+}
+
+/// The head of the table.
+pub fn head(rt: &impl Print) -> io::Result<()> {
+    println!(rt; "{:<26} {:>5} {:>6}", "file", "cases", "differ")
+}
+
+/// A row of the table.
+pub fn row(rt: &impl Print, file: &str, tally: Tally) -> io::Result<()> {
+    let Tally { cases, differ } = tally;
+    println!(rt; "{file:<26} {cases:>5} {differ:>6}")
+}
+
+/// Runs the cases of a file. Those that differ are told, and then the file's row.
+pub fn run<R: Files + Print + AllocGlobal>(rt: &R, file: &str) -> Result<Tally> {
+    let content = fs::read_to_string(rt, file).context(format_args!("{file} cannot be read"))?;
+    let cases = read(rt.alloc(), content.as_str()).context(format_args!("{file} is malformed"))?;
+    let tally = compare(rt, file, &cases)?;
+    row(rt, file, tally)?;
+    Ok(tally)
+}
+
+/// How many cases there are and how many differ, and tells these.
+pub fn compare(rt: &impl Print, file: &str, cases: &Vec<Case<'_>>) -> io::Result<Tally> {
+    let mut tally = Tally::default();
+    for case in cases.iter() {
+        let differs = !holds(case.job.as_slice(), case.replies.as_bytes());
+        if differs {
+            println!(rt; "{file}, line {}: case {} differs", case.line, case.name)?;
+            tell(rt, case)?;
+        }
+        tally = tally.with(Tally {
+            cases: 1,
+            differ: u64::from(differs),
+        });
+    }
+    Ok(tally)
+}
+
+/// Tells the first reply that differs.
+fn tell(rt: &impl Print, case: &Case<'_>) -> io::Result<()> {
+    let mut memories = Memories::zeroed();
+    let mut expected = case.replies.as_str().lines();
+    let mut number = 0u64;
+    for reply in Replies::new(&mut memories, case.job.as_slice()) {
+        let bytes = text(reply);
+        let came = str::from_utf8(bytes.as_slice()).unwrap_or("").trim_end();
+        let expected = expected.next().unwrap_or("none");
+        number = number.saturating_add(1);
+        if expected != came {
+            return println!(rt; "  reply {number}: expected {expected}, came {came}");
+        }
+    }
+    println!(rt;
+        "  expected {}, and no more came",
+        expected.next().unwrap_or("none")
+    )
+}
