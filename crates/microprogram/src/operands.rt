@@ -27,7 +27,7 @@ impl Chip {
             OperandX::Sr => registers.sr,
             OperandX::Cr => read_cr(self.sampled, registers.cr),
             OperandX::Dt => registers.dt,
-            OperandX::Pc4 => registers.pc / 0x1000_0000 * 0x1000_0000,
+            OperandX::Pc4 => registers.pc & 0xF000_0000,
             OperandX::C0 => 0,
             OperandX::Cz => 0xBFC0_0000,
             OperandX::Ch => 0xFFFF,

@@ -16,7 +16,7 @@ use rows::row::{Row, Sequencing};
 fn bit(n: u32, word: u32) -> u16
     ensures { result ≡ one_if (bit (n % 32) word) }
 {
-    (word.wrapping_shr(n) % 2) as u16
+    (word.wrapping_shr(n) & 1) as u16
 }
 
 /// Whether a path ends with a row of this sequencing.
@@ -47,7 +47,7 @@ impl Chip {
             Sequencing::Rie => amic / 8 * 8 + boundary_choice(self.registers.sr, lines, flag),
             Sequencing::Copro => amic / 4 * 4 + bit(25, ir) * 2 + bit(23, ir),
             Sequencing::Bcond => amic / 4 * 4 + bit(20, ir) * 2 + bit(16, ir),
-            Sequencing::Ad10 => amic / 4 * 4 + (ad % 4) as u16,
+            Sequencing::Ad10 => amic / 4 * 4 + (ad & 3) as u16,
             Sequencing::Ad1 => amic / 2 * 2 + bit(1, ad),
             Sequencing::Unsi => amic / 2 * 2 + bit(28, ir),
             Sequencing::Nul => amic / 2 * 2 + u16::from(zero),
