@@ -7,7 +7,7 @@ ghost use Rattle.bus.specs.Request.{access_of, kind_of, read_of, same_access, wo
 pub fn word_of(address: u32) -> u32
     ensures { result ≡ word_of address }
 {
-    address - address % 4
+    address & !3
 }
 
 /// How many bytes a write changes: 4, 2 or 1.

@@ -19,7 +19,8 @@ begun text rest bytes after same left =
 
 -- and one that they do not
 pub differs : (text rest bytes : List ℕ) → pointwise eqb (take (length text) bytes) text ≡ false → text ++ rest ≢ bytes
-differs text rest bytes other e = other_text _ _ (sym other) (ap (take (length text)) (sym e) ∙ take-append_seam text rest)
+differs text rest bytes other e =
+    other_text _ _ (sym other) (ap (take (length text)) (sym e) ∙ take-append_seam text rest)
 
 empty : (xs : List ℕ) → length xs ≡ 0 → [] ≡ xs
 empty [] e = refl
@@ -28,4 +29,5 @@ empty (x ∷ xs) e = absurd (omega (arith, e))
 -- nothing is left exactly where the rest is empty
 pub ended : (rest : List ℕ) (b : Bool) → b ≡ eqb (length rest) 0 → (IsTrue b → [] ≡ rest) × ([] ≡ rest → IsTrue b)
 ended rest true e = (λ h. empty rest (eqb-true (length rest) 0 (sym e)), λ h. refl)
-ended rest false e = (λ h. absurd (true≢false (sym h)), λ h. absurd (eqb-false (length rest) 0 (sym e) (ap length (sym h))))
+ended rest false e =
+    (λ h. absurd (true≢false (sym h)), λ h. absurd (eqb-false (length rest) 0 (sym e) (ap length (sym h))))

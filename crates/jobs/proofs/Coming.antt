@@ -132,10 +132,11 @@ module _ {B : Type 0} {means : B → Meaning} {steps : B → Request → Answer 
         exact = λ next decided. (nothing next x was none, nothing next y now still);
       })
     where
-      rest : (next : Meaning → Request → Meaning) (o : Option B) (p : Option Processor) (n : ℕ) (bytes : List ℕ) → lines_left o bytes ≡ [] → ◌≡◌ {A = List Reply} (elim o [
-        | Some pile ↦ replies_to_lines next (sight_of means pile p) n (text_lines_of bytes)
-        | None ↦ []
-      ]) []
+      rest : (next : Meaning → Request → Meaning) (o : Option B) (p : Option Processor) (n : ℕ) (bytes : List ℕ)
+          → lines_left o bytes ≡ [] → ◌≡◌ {A = List Reply} (elim o [
+            | Some pile ↦ replies_to_lines next (sight_of means pile p) n (text_lines_of bytes)
+            | None ↦ []
+          ]) []
       rest next (Some pile) p n bytes e = ap (replies_to_lines next (sight_of means pile p) n) e
       rest next None p n bytes e = refl
 

@@ -44,7 +44,8 @@ impl<'a, B: Bus> Job<'a, B> {
 
     /// A job that is still to be done, on a pile.
     pub fn new(pile: B, bytes: &'a [u8]) -> Job<'a, B>
-        ensures stands { (start : B) (h : History) → standing_of start h result ≡ first_standing max_job pile bytes.now }
+        ensures stands { (start : B) (h : History)
+            → standing_of start h result ≡ first_standing max_job pile bytes.now }
         ensures replies { (next : Meaning → Request → Meaning)
             → replies_to_come B.Bus.means next result ≡ replies_to_job next max_job (B.Bus.means pile) bytes.now }
     {

@@ -1,5 +1,6 @@
 -- Masks and shifts, in arithmetic. Assumes nothing.
-use Rattle.std.proofs.Common.{◌≡◌, ℕ, ◌+◌, ◌*◌, ◌/◌, ◌%◌, ◌^◌, ◌<◌, true, not, eqb, Some, None, Option, refl, ap, ◌∙◌, ap₂, arith}
+use Rattle.std.proofs.Common.{◌≡◌, ℕ, ◌+◌, ◌*◌, ◌/◌, ◌%◌, ◌^◌, ◌<◌, true, not, eqb, Some, None, Option, refl, ap, ◌∙◌}
+use Rattle.std.proofs.Common.{ap₂, arith}
 use lib.Bits.{bit_and, bit_or}
 use Rattle.std.proofs.lemmas.Bool.Decides.{nat_tests}
 use Rattle.std.proofs.lemmas.Nat.{and_comm, and_mask, and_mod, and_le_r, and-not, or_block, or_shifted}
@@ -24,7 +25,8 @@ pub bit_6 : (n : ℕ) → not (eqb (bit_and n 64) 0) ≡ bit 6 n
 bit_6 n = let e : bit_and n 64 ≡ n / 64 % 2 * 64 = and_high n 1 6 in rw e (grind (arith, nat_tests))
 
 pub bit_31 : (n : ℕ) → not (eqb (bit_and n 2147483648) 0) ≡ bit 31 n
-bit_31 n = let e : bit_and n 2147483648 ≡ n / 2147483648 % 2 * 2147483648 = and_high n 1 31 in rw e (grind (arith, nat_tests))
+bit_31 n = let e : bit_and n 2147483648 ≡ n / 2147483648 % 2 * 2147483648 = and_high n 1 31 in
+    rw e (grind (arith, nat_tests))
 
 -- high bits that stay, and low ones that are written
 pub six_low : (n m : ℕ) → n < 2 ^ 32 → m < 64 → bit_or (bit_and n 4294967232) m ≡ n / 64 * 64 + m
@@ -37,7 +39,8 @@ four_low n m h k =
     let high : bit_and n 4294967280 ≡ n / 16 * 16 = and_high_mask 32 4 (omega arith) n h in
     rw high (or_shifted (n / 16) 4 m k)
 
-pub entry_bits : (sr : ℕ) → sr < 2 ^ 32 → bit_or (bit_and sr 4294967232) (bit_and (sr * 4 % 4294967296) 63) ≡ sr_on_entry sr
+pub entry_bits : (sr : ℕ) → sr < 2 ^ 32
+    → bit_or (bit_and sr 4294967232) (bit_and (sr * 4 % 4294967296) 63) ≡ sr_on_entry sr
 entry_bits sr h =
     let low : bit_and (sr * 4 % 4294967296) 63 ≡ sr * 4 % 64 = and_mask (sr * 4 % 4294967296) 6 ∙ omega arith in
     rw low (six_low sr (sr * 4 % 64) h (omega arith))
@@ -47,21 +50,27 @@ return_bits sr h =
     let low : bit_and (sr / 4) 15 ≡ sr / 4 % 16 = and_mask (sr / 4) 4 in
     rw low (four_low sr (sr / 4 % 16) h (omega arith))
 
-pub code_bits : (code cr : ℕ) → code < 16 → cr < 2 ^ 32 → bit_or (bit_and cr 4294967232) (code * 4 % 4294967296) ≡ cr_on_entry code cr
+pub code_bits : (code cr : ℕ) → code < 16 → cr < 2 ^ 32
+    → bit_or (bit_and cr 4294967232) (code * 4 % 4294967296) ≡ cr_on_entry code cr
 code_bits code cr few h =
     let low : code * 4 % 4294967296 ≡ code * 4 = omega arith in
     rw low (six_low cr (code * 4) h (omega arith))
 
 -- the lines between the high and the low bits of CR
-pub line_bits : (lines cr : ℕ) → cr < 2 ^ 32 → bit_or (bit_and cr 4294902783) (lines % 64 * 1024 % 4294967296) ≡ cr_with_lines lines cr
+pub line_bits : (lines cr : ℕ) → cr < 2 ^ 32
+    → bit_or (bit_and cr 4294902783) (lines % 64 * 1024 % 4294967296) ≡ cr_with_lines lines cr
 line_bits lines cr h =
     let taken : bit_and 64512 cr ≡ cr / 1024 % 64 * 1024 = and_comm 64512 cr ∙ and_high cr 6 10 in
     let left : bit_and 4294902783 cr + bit_and 64512 cr ≡ cr = and-not 32 64512 cr (omega arith) h in
-    let kept : bit_and cr 4294902783 ≡ cr / 65536 * 65536 + cr % 1024 = and_comm cr 4294902783 ∙ omega (arith, taken, left) in
+    let kept : bit_and cr 4294902783 ≡ cr / 65536 * 65536 + cr % 1024 =
+    and_comm cr 4294902783 ∙ omega (arith, taken, left) in
     let line : lines % 64 * 1024 % 4294967296 ≡ 0 * 65536 + lines % 64 * 1024 = omega arith in
-    let whole : bit_or (cr / 65536 * 65536 + cr % 1024) (0 * 65536 + lines % 64 * 1024) ≡ bit_or (cr / 65536) 0 * 65536 + bit_or (cr % 1024) (lines % 64 * 1024) = or_block 16 (cr / 65536) 0 (cr % 1024) (lines % 64 * 1024) (omega arith) (omega arith) in
+    let whole : bit_or (cr / 65536 * 65536 + cr % 1024) (0 * 65536 + lines % 64 * 1024)
+    ≡ bit_or (cr / 65536) 0 * 65536 + bit_or (cr % 1024) (lines % 64 * 1024) =
+    or_block 16 (cr / 65536) 0 (cr % 1024) (lines % 64 * 1024) (omega arith) (omega arith) in
     let high : bit_or (cr / 65536) 0 ≡ cr / 65536 = or_zero_r (cr / 65536) in
-    let low : bit_or (cr % 1024) (lines % 64 * 1024) ≡ lines % 64 * 1024 + cr % 1024 = or_shifted_r (lines % 64) 10 (cr % 1024) (omega arith) in
+    let low : bit_or (cr % 1024) (lines % 64 * 1024) ≡ lines % 64 * 1024 + cr % 1024 =
+    or_shifted_r (lines % 64) 10 (cr % 1024) (omega arith) in
     ap₂ bit_or kept line ∙ whole ∙ omega (arith, high, low)
 
 -- the lines that SR lets in
@@ -71,7 +80,8 @@ six_bits a b h =
     let whole : b % 64 ≡ b = omega arith in
     small ∙ and_mod a b 6 ∙ ap (bit_and (a % 64)) whole
 
-pub lets_in : (sr lines m : ℕ) → bit 0 sr ≡ true → m ≡ lines % 64 → not (eqb (bit_and (sr / 1024) m) 0) ≡ interrupting sr lines
+pub lets_in : (sr lines m : ℕ) → bit 0 sr ≡ true → m ≡ lines % 64
+    → not (eqb (bit_and (sr / 1024) m) 0) ≡ interrupting sr lines
 lets_in sr lines m up e = rw (e, up) (ap (λ n. not (eqb n 0)) (six_bits (sr / 1024) (lines % 64) (omega arith)))
 
 pub code_few : (flag : Option Fault) → code_of flag < 16

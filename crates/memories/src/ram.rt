@@ -22,10 +22,10 @@ pub struct Ram<'a> {
 fn lane(width: Width, address: u32) -> usize
     ensures { result ≡ first_address width address - word_of address }
 {
-    let byte = (address % 4) as usize;
+    let byte = (address & 3) as usize;
     match width {
         Width::Word => 0,
-        Width::Half => byte - byte % 2,
+        Width::Half => byte & !1,
         Width::Byte => byte,
     }
 }

@@ -48,6 +48,6 @@ impl Region<'_> {
     {
         let at = self.offset(address)?;
         let bytes = self.bytes;
-        Some(bytes[at + (address % 4) as usize])
+        Some(bytes[at + (address & 3) as usize])
     }
 }

@@ -53,7 +53,7 @@ impl Memories {
 }
 
 /// The pile is decided: each request makes of what it means exactly the next meaning. A proof and no code: the crates
-/// above call it for its contract. `Decided` is of `Rattle.bus.specs.Decided`.
+/// above call it for its contract. `IsDecided` is of `Rattle.bus.specs.Decided`.
 pub fn goes_on()
     ensures { IsDecided pile_means PileSteps meaning_after }
 {

@@ -23,7 +23,8 @@ use Rattle.rows.specs.Rows.{row_at}
 use Rattle.rows.specs.declared.row.Row.{Row}
 
 -- before a boundary a cycle does not depend on the lines
-no_choice : (w : Row) (l k : ℕ) (work : ℕ × Bool × Bool) (a : Option Answer) (c : State) → ends_path w.sequencing ≡ false
+no_choice : (w : Row) (l k : ℕ) (work : ℕ × Bool × Bool) (a : Option Answer) (c : State)
+    → ends_path w.sequencing ≡ false
     → state_after w l work a c ≡ state_after w k work a c
 no_choice w l k work a c e =
     ap₂ (λ row lines.
@@ -122,7 +123,8 @@ module _ {S : Type 0} {means : S → Meaning} {steps : S → Request → Answer 
         short = subst (λ n. n.place < length_of (book h) (book h).event) (sym (report_of k)) w.short;
         boundaries = w.boundaries ∙ ap (λ n. n.boundaries) (sym (report_of k));
         sum =
-            subst (λ n. n.cycles ≡ n.frozen + total_length (means start) h.boundary_lines + n.place) (sym (report_of k))
+            subst (λ n. n.cycles ≡ n.frozen + total_length (means start) h.boundary_lines + n.place)
+            (sym (report_of k))
             (omega (arith, w.sum));
       }
 
@@ -222,7 +224,9 @@ module _ {S : Type 0} {means : S → Meaning} {steps : S → Request → Answer 
             (step (refusals (means start)) c.processor.lines (book h)).event);
         boundaries = ap suc w.boundaries ∙ sym (add-one _) ∙ ap (λ m. m.boundaries) (sym count);
         sum =
-            subst (λ m. m.cycles ≡ m.frozen + total_length (means start) (c.processor.lines ∷ h.boundary_lines) + m.place)
+            subst
+            (λ m. m.cycles
+            ≡ m.frozen + total_length (means start) (c.processor.lines ∷ h.boundary_lines) + m.place)
             (sym count) (omega (arith, w.sum));
       }
     where
@@ -243,7 +247,8 @@ module _ {S : Type 0} {means : S → Meaning} {steps : S → Request → Answer 
     where
       by : (e : Bool) → ends_path (current_row c.processor.state).sequencing ≡ e
           → OnTheWay
-          (cond {A = History} e (record { boundary_lines = c.processor.lines ∷ c.observed.history.boundary_lines; since = 0 })
+          (cond {A = History} e
+          (record { boundary_lines = c.processor.lines ∷ c.observed.history.boundary_lines; since = 0 })
           (record { boundary_lines = c.observed.history.boundary_lines; since = c.observed.history.since + 1 })) d
       by true e = way_over c.observed.history c d k e w
       by false e = way_on c.observed.history c d k e w

@@ -101,7 +101,8 @@ module _ {S : Type 0} {means : S → Meaning} {steps : S → Request → Answer 
   one_tick c d h =
       let w : Row = current_row c.processor.state in
       ap₂ (λ s b. record { state = s; bytes = b })
-      (state_of h ∙ ap (λ a. state_after w c.processor.lines (row_output w c.processor.state) a c.processor.state) now.0)
+      (state_of h
+      ∙ ap (λ a. state_after w c.processor.lines (row_output w c.processor.state) a c.processor.state) now.0)
       now.1
     where
       now : (h.answer ≡ option_map (answer (stilled (means c.pile))) (next_request c))

@@ -107,7 +107,9 @@ module _ {S : Type 0} {means : S → Meaning} {steps : S → Request → Answer 
 
   -- a boundary, and power-up
   anew : (c : Machine S) → (means c.pile).longest ≡ (means start).longest → c.processor.state.row < 1024 → Soon 0 c
-  anew c longest row = comes 0 c longest row path_budget.rows path_budget.accesses (right _ _ (below.rows c.processor.state.row row)) (omega arith)
+  anew c longest row =
+      comes 0 c longest row path_budget.rows path_budget.accesses (right _ _ (below.rows c.processor.state.row row))
+      (omega arith)
 
   pub soon_start : Soon 0 (core_at_power_up start)
   soon_start = anew (core_at_power_up start) refl (omega arith)
@@ -146,7 +148,8 @@ module _ {S : Type 0} {means : S → Meaning} {steps : S → Request → Answer 
             subst
             (λ s.
             since + 1 + near.rows
-            + ((near.touch - touches s) * (means start).longest + waiting (means d.pile) (request_of (current_row s) s))
+            + ((near.touch - touches s) * (means start).longest
+            + waiting (means d.pile) (request_of (current_row s) s))
             ≤ latest_boundary (means start)) (sym same)
             (omega (arith, near.near));
       }
@@ -179,8 +182,10 @@ module _ {S : Type 0} {means : S → Meaning} {steps : S → Request → Answer 
     where
       by : (e : Bool) → ends_path (current_row c.processor.state).sequencing ≡ e
           → Soon
-          (cond {A = History} e (record { boundary_lines = c.processor.lines ∷ c.observed.history.boundary_lines; since = 0 })
-          (record { boundary_lines = c.observed.history.boundary_lines; since = c.observed.history.since + 1 })).since d
+          (cond {A = History} e
+          (record { boundary_lines = c.processor.lines ∷ c.observed.history.boundary_lines; since = 0 })
+          (record { boundary_lines = c.observed.history.boundary_lines; since = c.observed.history.since + 1 })).since
+          d
       by true e = soon_over c.observed.history.since c d k near
       by false e = soon_on c.observed.history.since c d k e near
 

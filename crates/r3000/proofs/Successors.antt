@@ -22,7 +22,8 @@ follows listed p q amic g res z lines flag h =
     each p (successors q amic) (next_row q amic g res z lines flag) (listed q amic g res z lines flag) h
 
 -- only a boundary reads the lines
-pub no_lines : (q : Sequencing) (amic : ℕ) (g : Regs) (res : ℕ) (z : Bool) (flag : Bool) (l k : ℕ) → ends_path q ≡ false
+pub no_lines : (q : Sequencing) (amic : ℕ) (g : Regs) (res : ℕ) (z : Bool) (flag : Bool) (l k : ℕ)
+    → ends_path q ≡ false
     → next_row q amic g res z l flag ≡ next_row q amic g res z k flag
 no_lines s.Next amic g res z flag l k h = refl
 no_lines s.Decod amic g res z flag l k h = refl

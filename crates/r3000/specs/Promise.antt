@@ -53,7 +53,8 @@ pub record Promise {S : Type 0} (means : S → Meaning) (start : S) (c : Machine
       → Agrees (book_after (means start) c.observed.history.boundary_lines) c.processor.state (means c.pile)
   -- sum
   pub sum : c.observed.report.cycles
-      ≡ c.observed.report.frozen + total_length (means start) c.observed.history.boundary_lines + c.observed.report.place
+      ≡ c.observed.report.frozen + total_length (means start) c.observed.history.boundary_lines
+      + c.observed.report.place
   -- promptness: the latest granted cycle after a boundary, or after power-up, is not made without a boundary
   pub promptness : c.observed.history.since < latest_boundary (means start)
   -- register 0 is zero, and at most one flag is up (of which the flag's type leaves no more)

@@ -60,7 +60,8 @@ counted r =
 
 -- a reply, or the number of a denial
 abbrev pub answered : Result Reply Denial → List ℕ
-answered (Ok (reply.Clock c)) = joined (cond c.frozen (codes "frozen; ") (codes "not frozen; ") ∷ counted c.report ∷ [])
+answered (Ok (reply.Clock c)) =
+    joined (cond c.frozen (codes "frozen; ") (codes "not frozen; ") ∷ counted c.report ∷ [])
 answered (Ok (reply.Run report)) = counted report
 answered (Ok reply.Lines) = codes "set"
 answered (Ok (reply.Register w)) = word w

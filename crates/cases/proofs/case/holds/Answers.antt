@@ -8,7 +8,8 @@ use lib.Pointwise.{pointwise}
 pub loop-reply-init : goal.loop-reply-init
 loop-reply-init c =
     let begins = c.into_iter-reply-iterator.ensures.into_iter_gives in
-    let all : replies_to_come c.into_iter-reply-iterator.result ≡ _ = ap replies_to_come begins ∙ c.new-reply-items.ensures in
+    let all : replies_to_come c.into_iter-reply-iterator.result ≡ _ =
+    ap replies_to_come begins ∙ c.new-reply-items.ensures in
     (λ e. ap text_of_replies (sym all) ∙ e, λ e. ap text_of_replies all ∙ e)
 
 pub loop-reply-preserved : goal.loop-reply-preserved
@@ -21,7 +22,8 @@ loop-reply-preserved c =
     let cases = c.in-Some-strip_prefix.ensures.cases in
     let same = subst (λ t. pointwise eqb (take (length t) c.loop-reply.rest.now) t ≡ true) text cases.0 in
     let left = cases.1 ∙ ap (λ t. drop (length t) c.loop-reply.rest.now) text in
-    let both = begun (reply_text c.in-Some.reply) after c.loop-reply.rest.now c.in-Some-strip_prefix.after.now same left in
+    let both =
+    begun (reply_text c.in-Some.reply) after c.loop-reply.rest.now c.in-Some-strip_prefix.after.now same left in
     (λ e. so_far.0 (here ∙ both.0 e), λ e. both.1 (sym here ∙ so_far.1 e))
 
 pub returns-in-None-strip_prefix : goal.returns-in-None-strip_prefix
@@ -39,6 +41,7 @@ returns-in-None-strip_prefix c =
 pub returns : goal.returns
 returns c =
     let so_far = c.loop-reply.invariant in
-    let end : text_of_replies (replies_to_come c.loop-reply.reply-iterator) ≡ [] = ap text_of_replies c.in-None.ensures.steps.0 in
+    let end : text_of_replies (replies_to_come c.loop-reply.reply-iterator) ≡ [] =
+    ap text_of_replies c.in-None.ensures.steps.0 in
     let none = ended c.loop-reply.rest.now c.is_empty.result c.is_empty.ensures in
     (λ e. so_far.0 (end ∙ none.0 e), λ e. none.1 (sym end ∙ so_far.1 e))

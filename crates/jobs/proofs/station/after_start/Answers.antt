@@ -1,4 +1,4 @@
-use Rattle.std.proofs.Common.{◌≡◌, Ok, Err, Result, sym, refl, ap, ◌∙◌, subst, inl, inr}
+use Rattle.std.proofs.Common.{◌≡◌, Ok, Err, Result, sym, refl, ap, subst, inl, inr}
 use Rattle.jobs.specs.Decision.{decision}
 use Rattle.jobs.specs.Station.{LateAnswers, run_reply}
 use Rattle.jobs.specs.declared.fault.JobFault.{JobFault}
@@ -6,12 +6,10 @@ use Rattle.r3000.specs.Calls.{Runs, lines_reply}
 use Rattle.r3000.specs.Core.{machine_of}
 use Rattle.r3000.specs.Machine.{Machine}
 use Rattle.r3000.specs.Promise.{Upholds}
-use Rattle.r3000.specs.declared.report.Report.{Report}
 use Rattle.text.specs.declared.order.Order.{Order}
 use Rattle.text.specs.declared.reply.Reply.{Reply}
 use Rattle.text.specs.declared.reply.Reply.TheVariants as reply
-use Rattle.r3000.specs.declared.denial.Denial.{Denial}
-use Rattle.jobs.proofs.Late.{called, denied, runs, sets, shows}
+use Rattle.jobs.proofs.Late.{denied, runs, sets, shows}
 use Rattle.jobs.proofs.station.after_start.Given as given
 use Rattle.jobs.proofs.station.after_start.Goals as goal
 

@@ -24,7 +24,8 @@ returns-in_err-take-clause-steps g c =
     gives_none c.settles_as_decided.ensures c.cycles_as_decided.ensures c.promise.ensures x _ _
     c.from_residual-in_err-take.ensures (sym c.take.ensures.value ∙ c.in_default.is) c.take.ensures.after
     (c.take-2.ensures.after ∙ sym no_pile) refl refl
-    (ap (λ o. lines_left o x.lines.0.now) no_pile) (ap (λ o. lines_left o c.next.new.self.0.now) c.take-2.ensures.after)
+    (ap (λ o. lines_left o x.lines.0.now) no_pile)
+    (ap (λ o. lines_left o c.next.new.self.0.now) c.take-2.ensures.after)
 
 pub returns-clause-steps : goal.returns-clause-steps
 returns-clause-steps g c =

@@ -16,7 +16,8 @@ returns-in_default g c s h =
       no_history,
       subst (λ e. AnswersOrder g.B.Bus.means g.B.Bus.steps e c.args.order c.before_start.result.1 after) (sym before)
           c.before_start.ensures,
-      λ r. early_promised c.promise.ensures here (decision c.args.order).before c.before_start.result.1 after c.before_start.ensures,
+      λ r. early_promised c.promise.ensures here (decision c.args.order).before c.before_start.result.1 after
+          c.before_start.ensures,
     )
 
 pub returns : goal.returns
