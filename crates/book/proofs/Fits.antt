@@ -282,7 +282,7 @@ module _ (law : WordsStayWords) where
       (did_fit b (with_epc (reg g (rt g.ir)) g) (with_epc_lem g _ (rtw h) h) k)
       (met_fit b f.Ri g h k)
 
-  -- a result_of that may overflow
+  -- a result that may overflow
   checked_fit : (b : Book) (over : Bool) (n v : ℕ) (g : Regs) → v < 2 ^ 32 → Words g → ((x : ℕ) → b.bytes x < 256)
       → Good (cond over (with_fault b f.Ovf (with_ad v g)) (without_fault b (with_register n v (with_ad v g))))
   checked_fit b over n v g small h k =
