@@ -6,6 +6,10 @@ use Rattle.bus.specs.declared.request.Answer.{Answer}
 use Rattle.bus.specs.declared.request.Request.{Request}
 use Rattle.memories.specs.declared.scratch.Scratch.{Scratch}
 
+-- how many bytes it has
+abbrev pub scratch_length : ℕ
+scratch_length = 256
+
 -- the bytes within its range: none where its placement was denied
 abbrev pub bytes_of : Scratch → List ℕ
 bytes_of s = elim s.bytes [ Some bytes ↦ bytes | None ↦ [] ]

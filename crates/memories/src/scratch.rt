@@ -3,7 +3,7 @@
 ghost use Rattle.std.specs.Prelude.{◌≡◌, replicate};
 ghost use Rattle.memories.specs.Placement.{placed_bytes};
 ghost use Rattle.memories.specs.Region.{ram};
-ghost use Rattle.memories.specs.Scratch.{ScratchSteps, scratch_means};
+ghost use Rattle.memories.specs.Scratch.{ScratchSteps, scratch_means, scratch_length};
 
 use super::placement::check_placement;
 use super::ram::Ram;
@@ -11,7 +11,7 @@ use super::region::{LONGEST_WAIT, Region};
 use bus::memory::Bus;
 use bus::request::{Answer, Request};
 
-/// The bytes of 64 words.
+/// How many bytes it has: 64 words.
 pub const LENGTH: usize = 256;
 
 #[derive(Drop)]
@@ -24,7 +24,7 @@ pub struct Scratch {
 impl Scratch {
     /// Zeroed scratch that stands at `base`; one at a denied placement refuses everything.
     pub fn new(base: u32) -> Scratch
-        ensures { scratch_means result ≡ ram base (placed_bytes base (replicate 256 0)) }
+        ensures { scratch_means result ≡ ram base (placed_bytes base (replicate scratch_length 0)) }
     {
         let stands = check_placement(base, LENGTH).is_ok();
         Scratch {

@@ -2,7 +2,7 @@
 use Rattle.std.proofs.Common.{◌≡◌, ℕ, zero, suc, ◌+◌, ◌-◌, ◌<◌, ◌≤◌, Bool, true, false, ◌&&◌, T, ltb, leb, List, []}
 use Rattle.std.proofs.Common.{◌∷◌, ◌⊎◌, refl, subst, inl, inr, Contains, arith}
 use Rattle.std.proofs.lemmas.Bool.{cases_eq, leb-true, true≢false}
-use Rattle.rows.specs.Rows.{row_at, rows}
+use Rattle.rows.specs.Rows.{row_at, row_count, rows}
 use Rattle.microprogram.specs.Bounds.{IsLeast, RowsEnd, access_count, all, ends_within, path_budget, row_passes}
 use Rattle.microprogram.specs.Bounds.{successors}
 use Rattle.microprogram.specs.Cycle.{ends_path}
@@ -32,12 +32,12 @@ at b (suc m) n h t =
     go (inl e) this those = rw e this
     go (inr e) this those = those (omega arith)
 
-tested : T (sound_below path_budget 1024)
+tested : T (sound_below path_budget row_count)
 unfolding sound_below ends_within rows
 tested = tt
 
 pub rows_end : RowsEnd path_budget
-rows_end n h = at path_budget 1024 n h tested
+rows_end n h = at path_budget row_count n h tested
 
 -- a row is one row of the budget
 some : (r touch n : ℕ) → T (ends_within r touch n) → 0 < r
@@ -79,8 +79,8 @@ on (suc k) touch n m h e c = (
       (apart (ends_path (row_at n).sequencing) _ (right (leb (access_count (row_at n).transfer) touch) _ h) e),
 )
 
-passes : (b : Budget) → RowsEnd b → (n : ℕ) → n < 1024 → T (ends_within b.rows b.accesses n)
-passes b h n l = right (all (λ k. ltb k 1024) (successors (row_at n).sequencing (row_at n).amic)) _ (h n l)
+passes : (b : Budget) → RowsEnd b → (n : ℕ) → n < row_count → T (ends_within b.rows b.accesses n)
+passes b h n l = right (all (λ k. ltb k row_count) (successors (row_at n).sequencing (row_at n).amic)) _ (h n l)
 
 -- a branch with a link that is taken: init, bcond, bltzal, bltz, branch-e, branch, ifetch-e
 seven : (b : Budget) → RowsEnd b → 7 ≤ b.rows

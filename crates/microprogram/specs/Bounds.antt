@@ -2,7 +2,7 @@
 use Rattle.std.specs.Prelude.{ℕ, zero, suc, ◌+◌, ◌-◌, ◌*◌, ◌/◌, ◌<◌, ◌≤◌, Bool, true, false, ◌&&◌, T, List, [], ◌∷◌}
 use Rattle.std.specs.Prelude.{nat_le, nat_lt, Contains}
 use Rattle.machine.specs.Registers.{Regs}
-use Rattle.rows.specs.Rows.{row_at}
+use Rattle.rows.specs.Rows.{row_at, row_count}
 use Rattle.rows.specs.declared.row.Sequencing.{Sequencing}
 use Rattle.rows.specs.declared.row.Sequencing.TheVariants as s
 use Rattle.rows.specs.declared.row.Transfer.{Transfer}
@@ -53,12 +53,12 @@ ends_within (suc rows) touch n =
 -- the test of one row: its successors are rows, and every way on from it ends within the budget
 abbrev pub row_passes : Budget → ℕ → Bool
 row_passes b n =
-    all (λ k. nat_lt k 1024) (successors (row_at n).sequencing (row_at n).amic) && ends_within b.rows b.accesses n
+    all (λ k. nat_lt k row_count) (successors (row_at n).sequencing (row_at n).amic) && ends_within b.rows b.accesses n
 
 -- from every row at most so many rows, itself counted, lead to one that ends a path; at most so many of them access
 -- memory; and every row that is listed as its successor is one of the 1,024
 abbrev pub RowsEnd : Budget → Type 0
-RowsEnd b = (n : ℕ) → n < 1024 → T (row_passes b n)
+RowsEnd b = (n : ℕ) → n < row_count → T (row_passes b n)
 
 -- what the test gives
 abbrev pub path_budget : Budget

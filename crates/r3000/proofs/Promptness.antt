@@ -18,6 +18,7 @@ use Rattle.r3000.proofs.Below.{Below}
 use Rattle.r3000.proofs.Parts.{history_of, state_of}
 use Rattle.r3000.proofs.Successors.{follows}
 use Rattle.r3000.proofs.Tests.{left, right}
+use Rattle.rows.specs.Rows.{row_count}
 use Rattle.rows.specs.declared.row.Transfer.{Transfer}
 use Rattle.rows.specs.declared.row.Transfer.TheVariants as m
 
@@ -73,7 +74,7 @@ module _ {S : Type 0} {means : S → Meaning} {steps : S → Request → Answer 
   -- the rows of the way to the boundary, its accesses, and that all of it is near
   pub record Soon (since : ℕ) (c : Machine S) : Type 0 where
     pub longest : (means c.pile).longest ≡ (means start).longest
-    pub row : c.processor.state.row < 1024
+    pub row : c.processor.state.row < row_count
     pub rows : ℕ
     pub touch : ℕ
     pub path : T (ends_within rows touch c.processor.state.row)
@@ -82,7 +83,7 @@ module _ {S : Type 0} {means : S → Meaning} {steps : S → Request → Answer 
         + 2 * (means start).longest
 
   -- a row that is come to
-  comes : (since : ℕ) (c : Machine S) → (means c.pile).longest ≡ (means start).longest → c.processor.state.row < 1024
+  comes : (since : ℕ) (c : Machine S) → (means c.pile).longest ≡ (means start).longest → c.processor.state.row < row_count
       → (rows touch : ℕ) → T (ends_within rows touch c.processor.state.row)
       → since + rows + touch * (means start).longest ≤ latest_boundary (means start) → Soon since c
   comes since c longest row rows touch path near =
@@ -106,7 +107,7 @@ module _ {S : Type 0} {means : S → Meaning} {steps : S → Request → Answer 
       }
 
   -- a boundary, and power-up
-  anew : (c : Machine S) → (means c.pile).longest ≡ (means start).longest → c.processor.state.row < 1024 → Soon 0 c
+  anew : (c : Machine S) → (means c.pile).longest ≡ (means start).longest → c.processor.state.row < row_count → Soon 0 c
   anew c longest row =
       comes 0 c longest row path_budget.rows path_budget.accesses (right _ _ (below.rows c.processor.state.row row))
       (omega arith)
@@ -123,9 +124,9 @@ module _ {S : Type 0} {means : S → Meaning} {steps : S → Request → Answer 
       (follows below.listed p (current_row c.processor.state).sequencing (current_row c.processor.state).amic
       c.processor.state.regs _ _ c.processor.lines _ all)
 
-  is_row : (since : ℕ) (c d : Machine S) → Cycle steps c false d → Soon since c → d.processor.state.row < 1024
+  is_row : (since : ℕ) (c d : Machine S) → Cycle steps c false d → Soon since c → d.processor.state.row < row_count
   is_row since c d h near =
-      ltb-true _ _ (true_test _ (next (λ k. ltb k 1024) c d h (left _ _ (below.rows c.processor.state.row near.row))))
+      ltb-true _ _ (true_test _ (next (λ k. ltb k row_count) c d h (left _ _ (below.rows c.processor.state.row near.row))))
 
   stays : (since : ℕ) (c d : Machine S) (f : Bool) → Cycle steps c f d → Soon since c
       → (means d.pile).longest ≡ (means start).longest
@@ -140,7 +141,7 @@ module _ {S : Type 0} {means : S → Meaning} {steps : S → Request → Answer 
       in
       record {
         longest = stays since c d true h near;
-        row = subst (λ s. s.row < 1024) (sym same) near.row;
+        row = subst (λ s. s.row < row_count) (sym same) near.row;
         rows = near.rows;
         touch = near.touch;
         path = subst (λ s. T (ends_within near.rows near.touch s.row)) (sym same) near.path;

@@ -207,10 +207,14 @@ laid_out (suc k) n (c ∷ es) =
       | false ↦ empty_fields ∷ laid_out k (suc n) (c ∷ es)
     ]
 
--- the 1,024 rows
+-- how many rows there are
+abbrev pub row_count : ℕ
+row_count = 1024
+
+-- all of them
 unfoldable pub rows : List Fields
 unfolding laid_out listing
-rows = laid_out 1024 0 listing
+rows = laid_out row_count 0 listing
 
 abbrev pub row_of_fields : Fields → Row
 row_of_fields f =

@@ -16,7 +16,10 @@ type Fields = (X, Y, A, R, M, E, S, u16);
 /// What an address holds that the listing leaves out: an illegal code, followed by row 15.
 const EMPTY: Fields = (X::C0, Y::C0, A::Sum, R::Nop, M::Nop, E::Ri, S::Next, 15);
 
-static ROWS: [Fields; 1024] = [
+/// How many rows there are.
+const ROW_COUNT: usize = 1_024;
+
+static ROWS: [Fields; ROW_COUNT] = [
     // 0 reset
     (X::Cz, Y::C0, A::Sum, R::Pc, M::Nop, E::Clr, S::Next, 1),
     // 1 reset1
