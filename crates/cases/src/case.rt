@@ -1,6 +1,6 @@
 //! A case.
 
-ghost use Rattle.std.specs.Prelude.{◌≡◌, IsTrue, ◌↔◌};
+ghost use Rattle.std.specs.Prelude.{◌≡◌, IsTrue, ◌↔◌, []};
 ghost use Rattle.replies.specs.Replies.{answer_text};
 
 use pile::job::Memories;
@@ -20,7 +20,12 @@ pub struct Case<'a> {
 
 impl<'a> Case<'a> {
     /// A job of no bytes.
-    pub fn new(heap: Global, name: &'a str, line: u64) -> Case<'a> {
+    pub fn new(heap: Global, name: &'a str, line: u64) -> Case<'a>
+        ensures name { result.name.now ≡ name.now }
+        ensures line { result.line ≡ line }
+        ensures job { result.job.items ≡ [] }
+        ensures replies { result.replies.bytes.items ≡ [] }
+    {
         Case {
             name,
             line,

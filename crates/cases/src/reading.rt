@@ -1,13 +1,13 @@
 //! Reading a file of cases. `data/README.md` says what its lines are.
 
-ghost use Rattle.std.specs.Prelude.{◌≡◌, ◌++◌, ◌∷◌, [], OnOk};
+ghost use Rattle.std.specs.Prelude.{◌≡◌, ◌++◌, ◌∷◌, ◌⊎◌, [], OnErr, OnOk};
 
 use super::case::Case;
 use anyhow::{Context, Result, ensure};
 use std::alloc::{AllocError, Global};
 
 /// The cases of a file.
-pub fn read(heap: Global, text: &str) -> Result<Vec<Case<'_>>> {
+pub(crate) fn read(heap: Global, text: &str) -> Result<Vec<Case<'_>>> {
     let mut cases = Vec::new(heap);
     for (number, line) in (1..u64::MAX).zip(text.lines()) {
         read_line(heap, &mut cases, number, line).context(format_args!("line {number}"))?;
@@ -90,7 +90,9 @@ fn add_reply(case: &mut Case<'_>, reply: Option<&str>) -> Result<()> {
 
 /// Appends a line and its end.
 fn end_line(job: &mut Vec<u8>, line: &str) -> Result<(), AllocError>
-    ensures { OnOk result (job.new.items ≡ job.old.items ++ line.now ++ 10 ∷ []) }
+    ensures ok { OnOk result (job.new.items ≡ job.old.items ++ line.now ++ 10 ∷ []) }
+    ensures err { OnErr result
+        ((job.new.items ≡ job.old.items) ⊎ (job.new.items ≡ job.old.items ++ line.now)) }
 {
     job.extend_from_slice(line.as_bytes())?;
     job.push(b'\n')?;

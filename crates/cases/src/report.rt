@@ -1,5 +1,8 @@
 //! Running the cases of a file, and telling what came of them.
 
+ghost use Rattle.std.specs.Prelude.{◌≡◌, ◌+◌, ◌-◌, ◌^◌, min, IfOk};
+ghost use Rattle.cases.specs.Tallied.{CountsCases, no_cases};
+
 use super::case::{Case, holds};
 use super::reading::read;
 use anyhow::{Context, Result};
@@ -17,8 +20,11 @@ pub struct Tally {
 }
 
 impl Tally {
-    /// With those of another.
-    pub fn with(self, other: Tally) -> Tally {
+    /// With those of another; a count that would pass 64 bits stays at their end.
+    pub fn with(self, other: Tally) -> Tally
+        ensures cases { result.cases ≡ min (self.cases + other.cases) (2 ^ 64 - 1) }
+        ensures differ { result.differ ≡ min (self.differ + other.differ) (2 ^ 64 - 1) }
+    {
         Tally {
             cases: self.cases.saturating_add(other.cases),
             differ: self.differ.saturating_add(other.differ),
@@ -27,18 +33,18 @@ impl Tally {
 }
 
 /// The head of the table.
-pub fn head(rt: &impl Print) -> io::Result<()> {
+pub(crate) fn head(rt: &impl Print) -> io::Result<()> {
     println!(rt; "{:<26} {:>5} {:>6}", "file", "cases", "differ")
 }
 
 /// A row of the table.
-pub fn row(rt: &impl Print, file: &str, tally: Tally) -> io::Result<()> {
+pub(crate) fn row(rt: &impl Print, file: &str, tally: Tally) -> io::Result<()> {
     let Tally { cases, differ } = tally;
     println!(rt; "{file:<26} {cases:>5} {differ:>6}")
 }
 
 /// Runs the cases of a file. Those that differ are told, and then the file's row.
-pub fn run<R: Files + Print + AllocGlobal>(rt: &R, file: &str) -> Result<Tally> {
+pub(crate) fn run<R: Files + Print + AllocGlobal>(rt: &R, file: &str) -> Result<Tally> {
     let content = fs::read_to_string(rt, file).context(format_args!("{file} cannot be read"))?;
     let cases = read(rt.alloc(), content.as_str()).context(format_args!("{file} is malformed"))?;
     let tally = compare(rt, file, &cases)?;
@@ -47,7 +53,9 @@ pub fn run<R: Files + Print + AllocGlobal>(rt: &R, file: &str) -> Result<Tally> 
 }
 
 /// How many cases there are and how many differ, and tells these.
-pub fn compare(rt: &impl Print, file: &str, cases: &Vec<Case<'_>>) -> io::Result<Tally> {
+pub fn compare(rt: &impl Print, file: &str, cases: &Vec<Case<'_>>) -> io::Result<Tally>
+    ensures { IfOk result (λ tally. CountsCases no_cases cases.now.items tally) }
+{
     let mut tally = Tally::default();
     for case in cases.iter() {
         let differs = !holds(case.job.as_slice(), case.replies.as_bytes());

@@ -1,0 +1,30 @@
+use Rattle.std.proofs.Common.{rules, ◌≡◌, ◌+◌, ◌++◌, ◌∷◌, [], take, sym, subst, ap, ◌∙◌}
+use Rattle.std.proofs.lemmas.List.{take_all, take_more}
+use Rattle.cases.specs.Tallied.{CountsCase, CountsCases, no_cases}
+use Rattle.cases.proofs.Counting.{counts_more}
+use Rattle.cases.proofs.report.compare.Goals as goal
+
+pub loop-case-init : goal.loop-case-init
+loop-case-init g c = search rules
+
+pub loop-case-preserved : goal.loop-case-preserved
+loop-case-preserved g c =
+    let xs = c.deref-case-items.result.now in
+    let i = c.loop-case.case-index in
+    let item = c.case-item.result in
+    let counted : CountsCase c.loop-case.tally item c.with-tally.result = record {
+      right = c.holds-differs.result;
+      is_right = search rules;
+      cases = c.with-tally.ensures.cases;
+      differ = search rules;
+    } in
+    let more : take (i + 1) xs ≡ take i xs ++ item ∷ [] =
+    take_more xs i item c.loop-case-test.true ∙ ap (λ x. take i xs ++ x ∷ []) (search rules) in
+    subst (λ ys. CountsCases no_cases ys c.with-tally.result) (sym more)
+    (counts_more no_cases c.loop-case.tally c.with-tally.result (take i xs) item c.loop-case.invariant counted)
+
+pub returns : goal.returns
+returns g c =
+    subst (λ ys. CountsCases no_cases ys c.loop-case.tally)
+    (take_all c.loop-case.case-index c.deref-case-items.result.now c.loop-case-test.false ∙ c.deref-case-items.ensures.value)
+    c.loop-case.invariant

@@ -1,0 +1,6 @@
+use Rattle.std.proofs.Common.{take}
+use Rattle.cases.specs.Tallied.{CountsCases, no_cases}
+use Rattle.cases.proofs.report.compare.Given as goal
+
+abbrev pub invariant-loop-case : goal.invariant-loop-case
+invariant-loop-case g l = CountsCases no_cases (take l.case-index l.case-items) l.tally
