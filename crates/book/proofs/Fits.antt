@@ -5,8 +5,8 @@ use Rattle.bus.specs.Meaning.{stored_byte, word_at}
 use Rattle.bus.specs.Request.{word_of}
 use Rattle.bus.specs.declared.request.Width.{Width}
 use Rattle.bus.specs.declared.request.Width.TheVariants.{Word, Half, Byte}
-use Rattle.machine.specs.Address.{misplaced, user_mode}
-use Rattle.machine.specs.Fault.{code}
+use Rattle.machine.specs.Address.{is_misplaced, is_user_mode}
+use Rattle.machine.specs.Fault.{fault_code}
 use Rattle.machine.specs.Interrupt.{cr_with_lines}
 use Rattle.machine.specs.Registers.{Regs, reg, with_ad, with_bar, with_cr, with_epc, with_hi, with_ir, with_lo}
 use Rattle.machine.specs.Registers.{with_pc, with_register, with_sr}
@@ -16,10 +16,11 @@ use Rattle.machine.specs.declared.fault.Fault.{Fault}
 use Rattle.machine.specs.declared.fault.Fault.TheVariants as f
 use Rattle.machine.specs.declared.operation.Operation.TheVariants.{Sum}
 use Rattle.book.specs.Book.{Book, Effect, Event, Refusals, address, after_fetch, as_word, before_fetch, branch_if}
-use Rattle.book.specs.Book.{effect_of, entry_of, from_system, jump_to, load_with, pc_risen, raised_byte, raised_half}
+use Rattle.book.specs.Book.{effect_of, entry_of, from_system, jump_to, load_with, with_risen_pc, raised_byte}
+use Rattle.book.specs.Book.{raised_half}
 use Rattle.book.specs.Book.{store_with, to_sr, to_system, with_fault, with_link, without_fault}
 use Rattle.book.specs.Fit.{BeginsFit, Fit, StepsFit, Words}
-use Rattle.book.specs.Instruction.{Instruction, decoded, table_entry}
+use Rattle.book.specs.Instruction.{Instruction, instruction_of, table_entry}
 
 -- what holds of two values holds of the one that a test picks
 pick : {A : Type 0} (P : A → Type 0) {x y : A} (t : Bool) → P x → P y → P (cond t x y)
@@ -212,7 +213,7 @@ module _ (law : WordsStayWords) where
 
   goes_fit : (b : Book) (t : ℕ) (g : Regs) → t < 2 ^ 32 → Words g → ((x : ℕ) → b.bytes x < 256) → Good (jump_to b t g)
   goes_fit b t g small h k =
-      pick Good (misplaced 4 g.sr t) (met_fit b f.Adel _ (with_ad_lem g t small h) k)
+      pick Good (is_misplaced 4 g.sr t) (met_fit b f.Adel _ (with_ad_lem g t small h) k)
       (did_fit b _ (with_pc_lem _ t small (with_ad_lem g t small h)) k)
 
   branch_fit : (b : Book) (taken : Bool) (g : Regs) → Words g → ((x : ℕ) → b.bytes x < 256)
@@ -345,11 +346,11 @@ module _ (law : WordsStayWords) where
   done_fit r b Instruction.store_half g h k = stores_fit r b _ Half g h k
   done_fit r b Instruction.store_word g h k = stores_fit r b _ Word g h k
   done_fit r b (Instruction.move_from_system n) g h k =
-      pick Good (user_mode g.sr) (met_fit b f.Cpu g h k) (from_fit b g n h k)
+      pick Good (is_user_mode g.sr) (met_fit b f.Cpu g h k) (from_fit b g n h k)
   done_fit r b (Instruction.move_to_system n) g h k =
-      pick Good (user_mode g.sr) (met_fit b f.Cpu g h k) (to_fit b g n h k)
+      pick Good (is_user_mode g.sr) (met_fit b f.Cpu g h k) (to_fit b g n h k)
   done_fit r b Instruction.return_from_exception g h k =
-      pick Good (user_mode g.sr) (met_fit b f.Cpu g h k) (did_fit b _ (with_sr_lem g _ (omega (arith, h.sr)) h) k)
+      pick Good (is_user_mode g.sr) (met_fit b f.Cpu g h k) (did_fit b _ (with_sr_lem g _ (omega (arith, h.sr)) h) k)
   done_fit r b Instruction.unassigned_opcode g h k = met_fit b f.Ri g h k
   done_fit r b Instruction.unassigned_function g h k = met_fit b f.Ri g h k
 
@@ -378,22 +379,22 @@ module _ (law : WordsStayWords) where
   made_fit r b Event.reset fit =
       let h : Words b.regs = fit.words in
       did_fit b _ (with_sr_lem _ 0 (omega arith) (with_pc_lem b.regs _ (omega arith) h)) fit.bytes
-  made_fit r b (Event.exception c) fit = enters_fit b (code c) _ (law.codes c) (below _) fit
+  made_fit r b (Event.exception c) fit = enters_fit b (fault_code c) _ (law.codes c) (below _) fit
   made_fit r b Event.interrupt fit = enters_fit b 0 b.regs.pc (omega arith) fit.words.pc fit
   made_fit r b Event.run fit =
-      done_fit r b (decoded b.regs.ir) (pc_risen b) (with_pc_lem b.regs _ (below _) fit.words) fit.bytes
+      done_fit r b (instruction_of b.regs.ir) (with_risen_pc b) (with_pc_lem b.regs _ (below _) fit.words) fit.bytes
 
   -- the fetch, by the fault that stands
   fetched_fit : (r : Refusals) (m : Effect) (c : Option Fault) → Good m → Good (elim c [
     | Some c ↦ m
     | None ↦ cond (r.unreadable (word_of m.regs.pc))
-        (record { regs = m.regs; ledger = m.ledger; bytes = m.bytes; fault = Some f.Ibe; mask = m.mask })
+        (record { regs = m.regs; ledger = m.ledger; bytes = m.bytes; fault = Some f.Ibe; event_sr = m.event_sr })
         (record {
           regs = with_ir (word_at m.bytes (word_of m.regs.pc)) m.regs;
           ledger = m.ledger;
           bytes = m.bytes;
           fault = None;
-          mask = m.mask;
+          event_sr = m.event_sr;
         })
   ])
   fetched_fit r m (Some c) h = h

@@ -3,8 +3,8 @@ use Rattle.std.proofs.Common.{◌≡◌, ℕ, ◌<◌, ◌≤◌, Bool, true, fa
 use Rattle.std.proofs.lemmas.Bool.{and_parts, leb-true}
 use Rattle.machine.specs.Ledger.{blank_ledger}
 use Rattle.machine.specs.Registers.{Regs, zero_regs}
-use Rattle.book.specs.Book.{Book, Event, pc_risen}
-use Rattle.book.specs.Instruction.{Instruction, decoded}
+use Rattle.book.specs.Book.{Book, Event, with_risen_pc}
+use Rattle.book.specs.Instruction.{Instruction, instruction_of}
 use Rattle.book.specs.Length.{LongestStep, instruction_length, length_of, system_move_length}
 
 -- from one to seven
@@ -78,7 +78,7 @@ bound : (b : Book) (v : Event) → Few (length_of b v)
 bound b Event.reset = lasts tt
 bound b (Event.exception c) = lasts tt
 bound b Event.interrupt = lasts tt
-bound b Event.run = long_bound (decoded b.regs.ir) (pc_risen b)
+bound b Event.run = long_bound (instruction_of b.regs.ir) (with_risen_pc b)
 
 -- BGEZAL of register 0
 linking : Book

@@ -5,9 +5,10 @@ use Rattle.bus.specs.Meaning.{stored_byte, word_at}
 use Rattle.bus.specs.Request.{first_address, byte_count, word_of}
 use Rattle.bus.specs.declared.request.Width.{Width}
 use Rattle.bus.specs.declared.request.Width.TheVariants.{Word, Half, Byte}
-use Rattle.machine.specs.Address.{barred, misplaced, user_mode}
-use Rattle.machine.specs.Fault.{code}
-use Rattle.machine.specs.Interrupt.{cr_on_entry, cr_with_lines, interrupting, resetting, sr_on_entry, sr_on_return}
+use Rattle.machine.specs.Address.{is_barred, is_misplaced, is_user_mode}
+use Rattle.machine.specs.Fault.{fault_code}
+use Rattle.machine.specs.Interrupt.{cr_on_entry, cr_with_lines, is_interrupting, is_resetting, sr_on_entry}
+use Rattle.machine.specs.Interrupt.{sr_on_return}
 use Rattle.machine.specs.Ledger.{blank_ledger, with_entry}
 use Rattle.machine.specs.Operation.{integer_of, overflow, result_of}
 use Rattle.machine.specs.Registers.{Regs, reg, with_ad, with_bar, with_cr, with_epc, with_hi, with_ir, with_lo}
@@ -17,7 +18,7 @@ use Rattle.machine.specs.declared.fault.Fault.{Fault}
 use Rattle.machine.specs.declared.fault.Fault.TheVariants as f
 use Rattle.machine.specs.declared.ledger.Entry.{Entry}
 use Rattle.machine.specs.declared.operation.Operation.TheVariants.{Sum}
-use Rattle.book.specs.Instruction.{Instruction, decoded, table_entry}
+use Rattle.book.specs.Instruction.{Instruction, instruction_of, table_entry}
 
 -- what the next step will be
 pub data Event : Type 0 where
@@ -56,20 +57,20 @@ pub record Effect : Type 0 where
   pub ledger : List Entry
   pub bytes : ℕ → ℕ
   pub fault : Option Fault
-  pub mask : ℕ
+  pub event_sr : ℕ
 
 -- registers that a step left, with no fault
 abbrev pub without_fault : Book → Regs → Effect
-without_fault b g = record { regs = g; ledger = b.ledger; bytes = b.bytes; fault = None; mask = g.sr }
+without_fault b g = record { regs = g; ledger = b.ledger; bytes = b.bytes; fault = None; event_sr = g.sr }
 
 -- a step that met a fault
 abbrev pub with_fault : Book → Fault → Regs → Effect
-with_fault b c g = record { regs = g; ledger = b.ledger; bytes = b.bytes; fault = Some c; mask = g.sr }
+with_fault b c g = record { regs = g; ledger = b.ledger; bytes = b.bytes; fault = Some c; event_sr = g.sr }
 
 -- a jump: the target goes to AD, and to PC unless it may not be used
 abbrev pub jump_to : Book → ℕ → Regs → Effect
 jump_to b t g =
-    cond (misplaced 4 g.sr t) (with_fault b f.Adel (with_ad t g)) (without_fault b (with_pc t (with_ad t g)))
+    cond (is_misplaced 4 g.sr t) (with_fault b f.Adel (with_ad t g)) (without_fault b (with_pc t (with_ad t g)))
 
 -- a branch goes to the address after it plus the distance
 abbrev pub branch_if : Book → Bool → Regs → Effect
@@ -97,7 +98,8 @@ raised_half at w = w * 2 ^ (16 - at / 2 % 2 * 16) % 2 ^ 32
 abbrev pub as_word : Bool → ℕ → ℕ → ℕ
 as_word sign n v = cond sign (cond (nat_lt v (2 ^ (n - 1))) v (v + (2 ^ 32 - 2 ^ n))) v
 
--- a load: AD has the address, and at the end what the last argument says of address and word
+-- a load: the register gets what `value` says of the address and the word, and AD, which has the address before, what
+-- `left` says of them
 abbrev pub load_with : Refusals → Book → Bool → (ℕ → ℕ → ℕ) → (ℕ → ℕ → ℕ) → Regs → Effect
 load_with r b bad value left g =
     let at : ℕ = address g in
@@ -117,12 +119,12 @@ store_with r b bad size' g =
       ledger = b.ledger;
       bytes = stored_byte (first_address size' at) (byte_count size') (rt_value g) b.bytes;
       fault = None;
-      mask = g.sr;
+      event_sr = g.sr;
     }))
 
 -- what only the system may do
 abbrev pub unless_user_mode : Book → Regs → Effect → Effect
-unless_user_mode b g m = cond (user_mode g.sr) (with_fault b f.Cpu g) m
+unless_user_mode b g m = cond (is_user_mode g.sr) (with_fault b f.Cpu g) m
 
 -- the system registers that can be moved: 8 BAR, 12 SR, 13 CR, 14 EPC; for any other number the code is illegal
 abbrev pub from_system : Book → Regs → ℕ → Effect
@@ -143,7 +145,7 @@ to_sr b g =
       ledger = b.ledger;
       bytes = b.bytes;
       fault = None;
-      mask = g.sr;
+      event_sr = g.sr;
     }
 
 abbrev pub to_system : Book → Regs → ℕ → Effect
@@ -210,15 +212,15 @@ effect_of r b (Instruction.compute_plain op) g =
     without_fault b (with_register (rt g.ir) (result_of op (rs_value g) v) (with_ad v g))
 effect_of r b Instruction.load_upper g =
     without_fault b (with_register (rt g.ir) (immediate g.ir * 2 ^ 16) (with_ad (immediate g.ir) g))
-effect_of r b Instruction.load_word g = load_with r b (misplaced 4 g.sr (address g)) (λ at w. w) (λ at w. at) g
+effect_of r b Instruction.load_word g = load_with r b (is_misplaced 4 g.sr (address g)) (λ at w. w) (λ at w. at) g
 effect_of r b (Instruction.load_byte sign) g =
-    load_with r b (barred g.sr (address g)) (λ at w. as_word sign 8 (b.bytes at)) raised_byte g
+    load_with r b (is_barred g.sr (address g)) (λ at w. as_word sign 8 (b.bytes at)) raised_byte g
 effect_of r b (Instruction.load_half sign) g =
-    load_with r b (misplaced 2 g.sr (address g)) (λ at w. as_word sign 16 (b.bytes at + b.bytes (at + 1) * 256))
+    load_with r b (is_misplaced 2 g.sr (address g)) (λ at w. as_word sign 16 (b.bytes at + b.bytes (at + 1) * 256))
     raised_half g
-effect_of r b Instruction.store_byte g = store_with r b (barred g.sr (address g)) Byte g
-effect_of r b Instruction.store_half g = store_with r b (misplaced 2 g.sr (address g)) Half g
-effect_of r b Instruction.store_word g = store_with r b (misplaced 4 g.sr (address g)) Word g
+effect_of r b Instruction.store_byte g = store_with r b (is_barred g.sr (address g)) Byte g
+effect_of r b Instruction.store_half g = store_with r b (is_misplaced 2 g.sr (address g)) Half g
+effect_of r b Instruction.store_word g = store_with r b (is_misplaced 4 g.sr (address g)) Word g
 effect_of r b (Instruction.move_from_system n) g = unless_user_mode b g (from_system b g n)
 effect_of r b (Instruction.move_to_system n) g = unless_user_mode b g (to_system b g n)
 effect_of r b Instruction.return_from_exception g =
@@ -236,19 +238,19 @@ entry_of b c epc =
       ledger = with_entry c epc b.ledger;
       bytes = b.bytes;
       fault = None;
-      mask = sr_on_entry g.sr;
+      event_sr = sr_on_entry g.sr;
     }
 
 -- a run begins with PC rising by 4
-abbrev pub pc_risen : Book → Regs
-pc_risen b = with_pc ((b.regs.pc + 4) % 2 ^ 32) b.regs
+abbrev pub with_risen_pc : Book → Regs
+with_risen_pc b = with_pc ((b.regs.pc + 4) % 2 ^ 32) b.regs
 
 -- a step before its fetch
 abbrev pub before_fetch : Refusals → Book → Event → Effect
 before_fetch r b reset = without_fault b (with_sr 0 (with_pc 0xBFC00000 b.regs))
-before_fetch r b (exception c) = entry_of b (code c) ((b.regs.pc + (2 ^ 32 - 4)) % 2 ^ 32)
+before_fetch r b (exception c) = entry_of b (fault_code c) ((b.regs.pc + (2 ^ 32 - 4)) % 2 ^ 32)
 before_fetch r b interrupt = entry_of b 0 b.regs.pc
-before_fetch r b run = effect_of r b (decoded b.regs.ir) (pc_risen b)
+before_fetch r b run = effect_of r b (instruction_of b.regs.ir) (with_risen_pc b)
 
 -- the fetch: the word at PC goes to IR, or the fetch faults; where a fault stands already there is none
 abbrev pub after_fetch : Refusals → Effect → Effect
@@ -256,21 +258,21 @@ after_fetch r m =
     elim m.fault [
       | Some c ↦ m
       | None ↦ cond (r.unreadable (word_of m.regs.pc))
-          (record { regs = m.regs; ledger = m.ledger; bytes = m.bytes; fault = Some f.Ibe; mask = m.mask })
+          (record { regs = m.regs; ledger = m.ledger; bytes = m.bytes; fault = Some f.Ibe; event_sr = m.event_sr })
           (record {
             regs = with_ir (word_at m.bytes (word_of m.regs.pc)) m.regs;
             ledger = m.ledger;
             bytes = m.bytes;
             fault = None;
-            mask = m.mask;
+            event_sr = m.event_sr;
           })
     ]
 
 -- the next event, by the lines that stand at the boundary
 abbrev pub next_event : ℕ → Effect → Event
 next_event lines m =
-    cond (resetting lines) reset
-    (elim m.fault [ Some c ↦ exception c | None ↦ cond (interrupting m.mask lines) interrupt run ])
+    cond (is_resetting lines) reset
+    (elim m.fault [ Some c ↦ exception c | None ↦ cond (is_interrupting m.event_sr lines) interrupt run ])
 
 -- one step
 abbrev pub step : Refusals → ℕ → Book → Book

@@ -32,7 +32,7 @@ abbrev twice : Refusals → Book → Book
 twice r b = step r 0 (step r 0 b)
 
 -- the words are what the book comes to
-pub record Worked (w : WorkedCases) : Type 0 where
+pub record CasesHold (w : WorkedCases) : Type 0 where
   -- ADD of 7FFFFFFF and 1 enters with a code, and BAR has the sum
   pub add_code : w.add_code ≡ cr_code (twice nothing_refused (about_to_run 0x00221820 0 0x7FFFFFFF 1 0)).regs.cr
   pub add_bar : w.add_bar ≡ (twice nothing_refused (about_to_run 0x00221820 0 0x7FFFFFFF 1 0)).regs.bar

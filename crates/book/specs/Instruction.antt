@@ -119,7 +119,7 @@ functions =
 abbrev pub branch_instruction : ℕ → Instruction
 branch_instruction ir = elim (bit 16 ir) [ true ↦ branch_not_below (bit 20 ir) | false ↦ branch_below (bit 20 ir) ]
 
--- IR bit 25 alone makes a return; else bit 23 tells to from from
+-- IR bit 25 alone makes a return; else bit 23 tells a move to from a move from
 abbrev pub system_instruction : ℕ → Instruction
 system_instruction ir =
     elim (bit 25 ir) [
@@ -160,5 +160,5 @@ opcodes ir =
     ∷ (43, store_word)
     ∷ []
 
-abbrev pub decoded : ℕ → Instruction
-decoded ir = table_entry (opcode ir) (opcodes ir) unassigned_opcode
+abbrev pub instruction_of : ℕ → Instruction
+instruction_of ir = table_entry (opcode ir) (opcodes ir) unassigned_opcode

@@ -3,8 +3,8 @@ use Rattle.std.specs.Prelude.{◌≡◌, ℕ, ◌<◌, ◌≤◌, cond, not, [],
 use Rattle.machine.specs.Operation.{integer_of}
 use Rattle.machine.specs.Registers.{Regs, reg}
 use Rattle.machine.specs.Word.{rs}
-use Rattle.book.specs.Book.{Book, Event, pc_risen, rs_value, rt_value, with_link}
-use Rattle.book.specs.Instruction.{Instruction, decoded, table_entry}
+use Rattle.book.specs.Book.{Book, Event, with_risen_pc, rs_value, rt_value, with_link}
+use Rattle.book.specs.Instruction.{Instruction, instruction_of, table_entry}
 
 -- a move of a system register that does not exist takes one cycle more
 abbrev pub system_move_length : ℕ → ℕ
@@ -60,7 +60,7 @@ abbrev pub length_of : Book → Event → ℕ
 length_of b Event.reset = 3
 length_of b (Event.exception c) = 4
 length_of b Event.interrupt = 4
-length_of b Event.run = instruction_length (decoded b.regs.ir) (pc_risen b)
+length_of b Event.run = instruction_length (instruction_of b.regs.ir) (with_risen_pc b)
 
 -- each step takes a cycle at least, none takes more than so many, and some step takes as many
 pub record LongestStep (n : ℕ) : Type 0 where

@@ -1,7 +1,7 @@
 //! What is proved of the book.
 
 ghost use Rattle.std.specs.Prelude.{◌≡◌};
-ghost use Rattle.book.specs.Cases.{Worked};
+ghost use Rattle.book.specs.Cases.{CasesHold};
 ghost use Rattle.book.specs.Fit.{BeginsFit, StepsFit};
 ghost use Rattle.book.specs.Length.{LongestStep};
 
@@ -40,7 +40,7 @@ pub struct WorkedCases {
 
 /// Cases of the book, worked out.
 pub fn worked_cases() -> WorkedCases
-    ensures { Worked result }
+    ensures { CasesHold result }
 {
     WorkedCases {
         add_code: 12,

@@ -2,7 +2,7 @@
 use Rattle.std.proofs.Common.{◌≡◌, ℕ, zero, suc, ap, ◌∙◌}
 use Rattle.bus.specs.Decided.{IsDecided, SettlesAsDecided, meaning_after_asks}
 use Rattle.bus.specs.Meaning.{Meaning}
-use Rattle.bus.specs.Settled.{Waits}
+use Rattle.bus.specs.Settle.{Waits}
 use Rattle.bus.specs.declared.request.Answer.{Answer}
 use Rattle.bus.specs.declared.request.Answer.TheVariants.{Wait}
 use Rattle.bus.specs.declared.request.Request.{Request}

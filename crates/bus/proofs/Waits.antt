@@ -4,7 +4,7 @@ use Rattle.std.proofs.Common.{refl, ap, ◌∙◌, subst, arith}
 use Rattle.std.proofs.lemmas.Bool.{ltb-false}
 use Rattle.bus.specs.Meaning.{Answers, Keeps, Meaning, done_word, is_refused, is_stalled, written_byte}
 use Rattle.bus.specs.Request.{access_of, word_of}
-use Rattle.bus.specs.Settled.{Settles, Waits, end_of}
+use Rattle.bus.specs.Settle.{Settles, Waits, end_of}
 use Rattle.bus.specs.declared.request.Action.{Action}
 use Rattle.bus.specs.declared.request.Action.TheVariants as action
 use Rattle.bus.specs.declared.request.Answer.{Answer}
@@ -160,8 +160,8 @@ module _ {S : Type 0} {means : S → Meaning} {steps : S → Request → Answer 
           subst (λ x. Settles means steps s q (record { waits = n; outcome = x }) t) i (in_done word k)
 
     -- a request that has not ended was answered by wait
-    pub goes_on : (q : Request) (n : ℕ) (s u t : S) (a : Answer) → Waits steps q n s u → steps u q a t
+    pub pile_is_decided : (q : Request) (n : ℕ) (s u t : S) (a : Answer) → Waits steps q n s u → steps u q a t
         → None ≡ end_of q a → Waits steps q (suc n) s t
-    goes_on q n s u t Wait h k e = (u, h, k)
-    goes_on q n s u t BusError h k e = let z : ◌≡◌ {A = ℕ} 0 1 = cc in absurd (omega arith)
-    goes_on q n s u t (Done word) h k e = let z : ◌≡◌ {A = ℕ} 0 1 = cc in absurd (omega arith)
+    pile_is_decided q n s u t Wait h k e = (u, h, k)
+    pile_is_decided q n s u t BusError h k e = let z : ◌≡◌ {A = ℕ} 0 1 = cc in absurd (omega arith)
+    pile_is_decided q n s u t (Done word) h k e = let z : ◌≡◌ {A = ℕ} 0 1 = cc in absurd (omega arith)

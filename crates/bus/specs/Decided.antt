@@ -2,7 +2,7 @@
 use Rattle.std.specs.Prelude.{◌≡◌, ℕ, zero, suc}
 use Rattle.bus.specs.Meaning.{Meaning}
 use Rattle.bus.specs.Request.{access_of}
-use Rattle.bus.specs.Settled.{Settles}
+use Rattle.bus.specs.Settle.{Settles}
 use Rattle.bus.specs.declared.request.Answer.{Answer}
 use Rattle.bus.specs.declared.request.Request.{Request}
 use Rattle.bus.specs.declared.settle.Settled.{Settled}

@@ -1,4 +1,4 @@
 pub mod Decided
 pub mod Meaning
 pub mod Request
-pub mod Settled
+pub mod Settle

@@ -17,13 +17,13 @@ abbrev pub write_of : Width → ℕ → ℕ → Request
 write_of w address d = record { address = address; action = action.Write w d }
 
 -- the kind of an action: read word, write word, write half or write byte
-abbrev pub kind_of : Action → Kind
-kind_of action.Read = kind.Read
-kind_of (action.Write w d) = kind.Write w
+abbrev pub action_kind : Action → Kind
+action_kind action.Read = kind.Read
+action_kind (action.Write w d) = kind.Write w
 
 -- a request's kind and address; two requests are the same when these agree
 abbrev pub access_of : Request → Access
-access_of q = record { address = q.address; kind = kind_of q.action }
+access_of q = record { address = q.address; kind = action_kind q.action }
 
 -- kinds are compared by their numbers
 abbrev pub kind_number : Kind → ℕ

@@ -31,7 +31,7 @@ pub trait Bus {
         ensures { result ≡ (means self.now).longest };
 
     /// The theorem that each step keeps points 1 to 4 of the bus (docs/BUS.md); point 5 is the clause of `look`.
-    /// It is a proof and no code: whoever rests on it calls it.
+    /// Who calls it has its contract.
     fn keeps()
         ensures { Keeps means steps };
 }

@@ -1,7 +1,7 @@
 //! What is asked of a memory, and what it answers.
 
 ghost use Rattle.std.specs.Prelude.{◌≡◌};
-ghost use Rattle.bus.specs.Request.{access_of, kind_of, read_of, same_access, word_of, write_of};
+ghost use Rattle.bus.specs.Request.{access_of, action_kind, read_of, same_access, word_of, write_of};
 
 /// The name of the word that an address lies in: the address with its two low bits cleared.
 pub fn word_of(address: u32) -> u32
@@ -17,9 +17,6 @@ pub enum Width {
     Half,
     Byte,
 }
-
-// A read is a request like a write, so `Kind` and `Action` are no options; and an access is no request with empty
-// data, since what memories compare has names of its own.
 
 /// The four kinds of request; a read always asks for a word.
 #[derive(Clone, Copy, PartialEq, Eq)]
@@ -38,7 +35,7 @@ pub enum Action {
 impl Action {
     /// The kind of the request, which leaves the data out.
     pub fn kind(self) -> Kind
-        ensures { result ≡ kind_of self }
+        ensures { result ≡ action_kind self }
     {
         match self {
             Action::Read => Kind::Read,

@@ -2,7 +2,7 @@
 
 ghost use Rattle.std.specs.Prelude.{◌≡◌};
 ghost use Rattle.bus.specs.Decided.{SettlesAsDecided};
-ghost use Rattle.bus.specs.Settled.{Settles, end_of};
+ghost use Rattle.bus.specs.Settle.{Settles, end_of};
 
 use super::memory::Bus;
 use super::request::{Answer, Request};
@@ -47,8 +47,8 @@ pub fn settle<B: Bus>(bus: &mut B, request: Request) -> Settled
     unreachable()
 }
 
-/// Where a memory's meaning decides how it goes on, it decides what waiting out leaves. A proof and no code: who calls
-/// it has its contract.
+/// A theorem: where a memory's meaning decides how it goes on, it decides what waiting out leaves. Who calls it has its
+/// contract.
 pub fn settles_as_decided<B: Bus>()
     ensures { SettlesAsDecided B.Bus.means B.Bus.steps }
 {}

@@ -1,6 +1,6 @@
 -- Cases are counted one more at a time. Assumes nothing.
 use Rattle.std.proofs.Common.{List, [], ◌∷◌, ◌++◌, refl, subst}
-use Rattle.cases.specs.Tallied.{CountsCase, CountsCases}
+use Rattle.cases.specs.Report.{CountsCase, CountsCases}
 use Rattle.cases.specs.declared.case.Case.{Case}
 use Rattle.cases.specs.declared.report.Tally.{Tally}
 

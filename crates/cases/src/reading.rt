@@ -40,7 +40,7 @@ fn read_line<'a>(
 
 /// Adds a line of the job, the reply behind it, or both.
 fn add_plain(case: &mut Case<'_>, line: &str) -> Result<()> {
-    let (order, reply) = parted(line);
+    let (order, reply) = split_reply(line);
     if let Some(order) = order.strip_prefix('>') {
         end_line(&mut case.job, order.trim())?;
     } else if let Some(order) = order.strip_prefix('=') {
@@ -59,7 +59,7 @@ fn add_plain(case: &mut Case<'_>, line: &str) -> Result<()> {
 /// Adds bytes of the job as they stand in quotes, so many times, and the reply behind them.
 fn add_exact(case: &mut Case<'_>, quoted: &str) -> Result<()> {
     let (bytes, rest) = quoted.split_once('"').context("a quote has no end")?;
-    let (times, reply) = parted(rest);
+    let (times, reply) = split_reply(rest);
     let times = if times.is_empty() {
         1
     } else {
@@ -72,7 +72,7 @@ fn add_exact(case: &mut Case<'_>, quoted: &str) -> Result<()> {
 }
 
 /// What stands in front of a reply, and the reply, without the comment behind both.
-fn parted(line: &str) -> (&str, Option<&str>) {
+fn split_reply(line: &str) -> (&str, Option<&str>) {
     let line = line.split_once(';').map_or(line, |(front, _)| front);
     match line.split_once('<') {
         Some((front, reply)) => (front.trim(), Some(reply.trim())),
@@ -112,7 +112,7 @@ fn unescape(job: &mut Vec<u8>, bytes: &str) -> Result<()> {
         job.extend_from_slice(first.as_bytes())?;
     }
     for part in parts {
-        let (byte, rest) = escaped(part).context("no two digits behind \\")?;
+        let (byte, rest) = escaped_byte(part).context("no two digits behind \\")?;
         job.push(byte)?;
         job.extend_from_slice(rest.as_bytes())?;
     }
@@ -120,7 +120,7 @@ fn unescape(job: &mut Vec<u8>, bytes: &str) -> Result<()> {
 }
 
 /// The byte that two digits stand for, and what stands behind them.
-fn escaped(part: &str) -> Option<(u8, &str)> {
+fn escaped_byte(part: &str) -> Option<(u8, &str)> {
     let (digits, rest) = part.split_at_checked(2)?;
     let byte = u8::from_str_radix(digits, 16).ok()?;
     (!digits.starts_with('+')).then_some((byte, rest))

@@ -1,7 +1,7 @@
 //! Running the cases of a file, and telling what came of them.
 
 ghost use Rattle.std.specs.Prelude.{◌≡◌, ◌+◌, ◌-◌, ◌^◌, min, IfOk};
-ghost use Rattle.cases.specs.Tallied.{CountsCases, no_cases};
+ghost use Rattle.cases.specs.Report.{CountsCases, no_cases};
 
 use super::case::{Case, holds};
 use super::reading::read;

@@ -7,13 +7,13 @@ use Rattle.bus.specs.declared.request.Answer.{Answer}
 use Rattle.bus.specs.declared.request.Request.{Request}
 use Rattle.jobs.specs.Coming.{Leaves, NextGives, lines_left, sight_of, job_stage, standing_of, replies_to_come}
 use Rattle.jobs.specs.Decided.{Sight, line_answer, replies_to_lines}
-use Rattle.jobs.specs.Job.{GivesNext, AnswersLine, Standing, text_lines_of}
+use Rattle.jobs.specs.Job.{AnswersNext, AnswersLine, Standing, text_lines_of}
 use Rattle.jobs.specs.Station.{StationDoes, StageIsPromised, StageIsReached, Stage, stage_of_station}
 use Rattle.jobs.specs.declared.job.Job.{Job}
 use Rattle.jobs.specs.declared.station.Station.{Station}
 use Rattle.jobs.proofs.Decided.{answers_line, shown}
 use Rattle.jobs.proofs.Promised.{promised}
-use Rattle.text.specs.Line.{read_line}
+use Rattle.text.specs.Reading.{read_line}
 use Rattle.text.specs.declared.reply.Reply.{Reply}
 use Rattle.r3000.specs.Decided.{CyclesAsDecided}
 use Rattle.r3000.specs.Machine.{History, no_history}
@@ -75,7 +75,7 @@ module _ {B : Type 0} {means : B → Meaning} {steps : B → Request → Answer 
             record {
               pile = s;
               history = h;
-              gives = subst₂ (λ u v. GivesNext means steps u (Some d) v) (sym seen) (sym left) (refl, refl);
+              gives = subst₂ (λ u v. AnswersNext means steps u (Some d) v) (sym seen) (sym left) (refl, refl);
               promise =
                   stays (job_stage s h x.pile x.processor) (job_stage s h y.pile y.processor)
                   (λ i. job_stage s h (station i) (chip i));
@@ -121,7 +121,7 @@ module _ {B : Type 0} {means : B → Meaning} {steps : B → Request → Answer 
             record {
               pile = s;
               history = h;
-              gives = subst₂ (λ u v. GivesNext means steps u None v) (sym seen) (sym left) (refl, refl);
+              gives = subst₂ (λ u v. AnswersNext means steps u None v) (sym seen) (sym left) (refl, refl);
               promise =
                   stays (job_stage s h x.pile x.processor) (job_stage s h y.pile y.processor)
                   (λ i. job_stage s h (station i) (chip i));
@@ -190,7 +190,7 @@ module _ {B : Type 0} {means : B → Meaning} {steps : B → Request → Answer 
               pile = done.0;
               history = done.1;
               gives =
-                  subst₂ (λ u v. GivesNext means steps u (Some r) v) (sym seen) (sym left)
+                  subst₂ (λ u v. AnswersNext means steps u (Some r) v) (sym seen) (sym left)
                   (r, [], stage_of_station done.0 done.1 after, done.2, refl, refl);
               promise =
                   subst₂ (λ u v. StageIsReached means steps u.stage → StageIsPromised means steps v.stage) (sym seen)

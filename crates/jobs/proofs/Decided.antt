@@ -52,7 +52,7 @@ module _ {S : Type 0} {means : S → Meaning} {steps : S → Request → Answer 
   late_does c d (set_lines n) r h = (h.0, ap (core_meaning means) h.1)
   late_does c d (make_cycles n) r h =
       let all = cycles next decided n c d h.0 in
-      (h.1 ∙ ap (λ m. run_reply m.observed.report) all, all)
+      (h.1 ∙ ap (λ m. run_reply m.observation.report) all, all)
   late_does c d (reply_with q) r h = (h.0, ap (core_meaning means) h.1)
 
   early_answers : (s : S) (x : Result EarlyEffect JobFault) (r : Result Reply JobFault) (e : Stage S)
@@ -75,7 +75,7 @@ module _ {S : Type 0} {means : S → Meaning} {steps : S → Request → Answer 
       × (shown means g ≡ (order_answer next (shown means e) o).then)
   answers_order (loading s) g o r h = early_answers s (decision o).before r g h
   answers_order (running s c) g o r h =
-      let done = late_answers c h.0 ((decision o).after c.processor c.observed.report) r h.1 in
+      let done = late_answers c h.0 ((decision o).after c.processor c.observation.report) r h.1 in
       (done.0, ap (shown means) h.2 ∙ done.1)
 
   -- what is done with a line is what the function says of it

@@ -46,15 +46,15 @@ module _ {S : Type 0} (means : S → Meaning) (steps : S → Request → Answer 
       by false e h = (reply.Set, ap (called (λ u. reply.Set)) e, (refl, h))
 
   pub runs : (n : ℕ) (q : Result Report Denial) → Runs steps (Upholds means steps b) n b q d
-      → LateAnswers means steps b (effect_if_granted (λ u. make_cycles n) (check_run n b.observed.report))
+      → LateAnswers means steps b (effect_if_granted (λ u. make_cycles n) (check_run n b.observation.report))
       (called run_reply q) d
-  runs n q h = by (check_run n b.observed.report) h
+  runs n q h = by (check_run n b.observation.report) h
     where
       by : (o : Result (Unit {0}) Denial)
-          → WhereGranted o b q d (Cycles steps (Upholds means steps b) n b d × (q ≡ Ok d.observed.report))
+          → WhereGranted o b q d (Cycles steps (Upholds means steps b) n b d × (q ≡ Ok d.observation.report))
           → LateAnswers means steps b (effect_if_granted (λ u. make_cycles n) o) (called run_reply q) d
       by (Err f) h = (ap (called run_reply) h.0, h.1)
-      by (Ok u) h = (run_reply d.observed.report, ap (called run_reply) h.1, (h.0, refl))
+      by (Ok u) h = (run_reply d.observation.report, ap (called run_reply) h.1, (h.0, refl))
 
   pub shows : (n : ℕ) (q : Result ℕ Denial) → q ≡ register_reply n b.processor.state → d ≡ b
       → LateAnswers means steps b

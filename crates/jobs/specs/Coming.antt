@@ -7,7 +7,7 @@ use Rattle.bus.specs.declared.request.Answer.{Answer}
 use Rattle.bus.specs.declared.request.Request.{Request}
 use Rattle.jobs.specs.Decided as sight
 use Rattle.jobs.specs.Decided.{Sight, replies_to_lines}
-use Rattle.jobs.specs.Job.{GivesNext, Standing, AreToCome, text_lines_of}
+use Rattle.jobs.specs.Job.{AnswersNext, Standing, AreToCome, text_lines_of}
 use Rattle.jobs.specs.Station.{StageIsPromised, StageIsReached, Stage, loading, stage_of_station}
 use Rattle.jobs.specs.declared.job.Job.{Job}
 use Rattle.text.specs.declared.reply.Reply.{Reply}
@@ -62,10 +62,10 @@ module _ {B : Type 0} where
           (λ d. (rs : List Reply) → AreToCome means steps y rs → AreToCome means steps x (d ∷ rs))
 
       -- one call of next, over any pile
-      pub record NextTurns (s : B) (h : History) (x : Job B) (r : Option Reply) (y : Job B) : Type 0 where
+      pub record NextOverAnyPile (s : B) (h : History) (x : Job B) (r : Option Reply) (y : Job B) : Type 0 where
         pub pile : B
         pub history : History
-        pub gives : GivesNext means steps (standing_of s h x) r (standing_of pile history y)
+        pub gives : AnswersNext means steps (standing_of s h x) r (standing_of pile history y)
         -- where the core could be reached, the promise holds of it, and the replies are those of the job
         pub promise : StageIsReached means steps (standing_of s h x).stage
             → StageIsPromised means steps (standing_of pile history y).stage
@@ -74,6 +74,6 @@ module _ {B : Type 0} where
 
       -- and, where the pile is decided, the value of the function
       pub record NextGives (x : Job B) (r : Option Reply) (y : Job B) : Type 0 where
-        pub turns : (s : B) (h : History) → NextTurns s h x r y
+        pub turns : (s : B) (h : History) → NextOverAnyPile s h x r y
         pub exact : (next : Meaning → Request → Meaning) → IsDecided means steps next
             → YieldsFirst (replies_to_come next) x r y

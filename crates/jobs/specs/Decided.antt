@@ -2,7 +2,7 @@
 use Rattle.std.specs.Prelude.{ℕ, ◌+◌, cond, List, [], ◌∷◌, ◌++◌, length, Ok, Err, Result, nat_lt}
 use Rattle.bus.specs.Decided.{meaning_after_settling}
 use Rattle.bus.specs.Meaning.{Meaning}
-use Rattle.bus.specs.Settled.{outcome}
+use Rattle.bus.specs.Settle.{outcome}
 use Rattle.bus.specs.declared.request.Request.{Request}
 use Rattle.jobs.specs.Decision.{EarlyEffect, LateEffect, decision, make_cycles, power_up, reply_with, set_lines}
 use Rattle.jobs.specs.Decision as effect
@@ -12,7 +12,7 @@ use Rattle.jobs.specs.declared.fault.JobFault.{JobFault}
 use Rattle.jobs.specs.declared.fault.JobFault.TheVariants as fault
 use Rattle.r3000.specs.Decided.{after_cycles}
 use Rattle.r3000.specs.Machine.{Machine, core_at_power_up, with_lines}
-use Rattle.text.specs.Line.{read_line}
+use Rattle.text.specs.Reading.{read_line}
 use Rattle.text.specs.declared.fault.LineFault.{LineFault}
 use Rattle.text.specs.declared.order.Order.{Order}
 use Rattle.text.specs.declared.reply.Reply.{Reply}
@@ -41,7 +41,7 @@ module _ (next : Meaning → Request → Meaning) where
   -- an effect after the start: what is replied, and the core afterwards
   abbrev pub late_result : Machine Meaning → LateEffect → Reply × Machine Meaning
   late_result c (set_lines n) = (reply.Set, with_lines n c)
-  late_result c (make_cycles n) = (run_reply (after_cycles next n c).observed.report, after_cycles next n c)
+  late_result c (make_cycles n) = (run_reply (after_cycles next n c).observation.report, after_cycles next n c)
   late_result c (reply_with q) = (q, c)
 
   -- what was decided before the start, and after it
@@ -56,7 +56,7 @@ module _ (next : Meaning → Request → Meaning) where
   -- an order
   abbrev pub order_answer : Sight → Order → Turn (Result Reply JobFault)
   order_answer (loading m) o = early_answer m (decision o).before
-  order_answer (running c) o = late_answer c ((decision o).after c.processor c.observed.report)
+  order_answer (running c) o = late_answer c ((decision o).after c.processor c.observation.report)
 
   -- a line that was read: denied by its form, or an order
   abbrev pub line_answer : Sight → ℕ → Result Order LineFault → Turn (List Reply)

@@ -4,7 +4,7 @@ use Rattle.std.specs.Prelude.{ℕ, Ok, Err, Result}
 use Rattle.jobs.specs.declared.fault.JobFault.{JobFault}
 use Rattle.jobs.specs.declared.fault.JobFault.TheVariants as fault
 use Rattle.r3000.specs.Calls.{check_run, lines_reply, register_reply}
-use Rattle.r3000.specs.Machine.{Cpu}
+use Rattle.r3000.specs.Machine.{ProcessorState}
 use Rattle.r3000.specs.declared.denial.Denial.{Denial}
 use Rattle.r3000.specs.declared.report.Report.{Report}
 use Rattle.text.specs.declared.order.Order.{Order}
@@ -36,7 +36,7 @@ effect_if_granted effect (Err d) = Err (fault.Core d)
 -- what a kind of line does: before the start; and after it, by the processor and the counts
 pub record Decision : Type 0 where
   pub before : Result EarlyEffect JobFault
-  pub after : Cpu → Report → Result LateEffect JobFault
+  pub after : ProcessorState → Report → Result LateEffect JobFault
 
 -- the table
 abbrev pub decision : Order → Decision

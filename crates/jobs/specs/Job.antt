@@ -4,8 +4,8 @@ use Rattle.std.specs.Prelude.{◌==◌, nat_lt}
 use Rattle.bus.specs.Meaning.{Meaning}
 use Rattle.bus.specs.declared.request.Answer.{Answer}
 use Rattle.bus.specs.declared.request.Request.{Request}
-use Rattle.jobs.specs.Fault.{address_of, number_of}
-use Rattle.text.specs.Line.{read_line}
+use Rattle.jobs.specs.Fault.{denial_address, denial_number}
+use Rattle.text.specs.Reading.{read_line}
 use Rattle.text.specs.declared.fault.LineFault.{LineFault}
 use Rattle.jobs.specs.Station.{StageIsPromised, AnswersOrder, Stage, loading}
 use Rattle.jobs.specs.declared.fault.JobFault.{JobFault}
@@ -26,7 +26,7 @@ text_lines_of (b ∷ bs) = cond (b == 10) ([] ∷ text_lines_of bs) (with_first_
 
 -- the reply to a denied line
 abbrev pub denial_reply : ℕ → JobFault → Reply
-denial_reply n f = reply.Denied (record { number = number_of f; line = n; address = address_of f })
+denial_reply n f = reply.Denied (record { number = denial_number f; line = n; address = denial_address f })
 
 -- the replies to a line: its own, or that of its denial
 abbrev pub line_replies : ℕ → Result Reply JobFault → List Reply
@@ -79,8 +79,8 @@ module _ {S : Type 0} (means : S → Meaning) (steps : S → Request → Answer 
 
   -- how a job gives its next reply: one that is due; where none is, it does the next line, and gives the first of the
   -- line's replies; where no line is left either, it gives none and stays as it is
-  abbrev pub GivesNext : Standing S → Option Reply → Standing S → Type 0
-  GivesNext x r y =
+  abbrev pub AnswersNext : Standing S → Option Reply → Standing S → Type 0
+  AnswersNext x r y =
       elim x.due [
         | d ∷ ds ↦ (r ≡ Some d) × (y ≡ record { due = ds; stage = x.stage; number = x.number; left = x.left })
         | [] ↦ elim x.left [

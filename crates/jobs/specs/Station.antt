@@ -2,7 +2,7 @@
 use Rattle.std.specs.Prelude.{◌≡◌, ℕ, Some, None, Ok, Err, Result}
 use Rattle.bus.specs.Meaning.{Meaning}
 use Rattle.bus.specs.Request.{write_of}
-use Rattle.bus.specs.Settled.{Settles}
+use Rattle.bus.specs.Settle.{Settles}
 use Rattle.bus.specs.declared.request.Answer.{Answer}
 use Rattle.bus.specs.declared.request.Request.{Request}
 use Rattle.bus.specs.declared.request.Width.TheVariants.{Word}
@@ -59,7 +59,7 @@ module _ {S : Type 0} (means : S → Meaning) (steps : S → Request → Answer 
   -- an effect after the start, on a core; each cycle upholds the promise
   abbrev pub LateDoes : Machine S → LateEffect → Reply → Machine S → Type 0
   LateDoes c (set_lines n) r d = (r ≡ reply.Set) × (d ≡ with_lines n c)
-  LateDoes c (make_cycles n) r d = Cycles steps (Upholds means steps c) n c d × (r ≡ run_reply d.observed.report)
+  LateDoes c (make_cycles n) r d = Cycles steps (Upholds means steps c) n c d × (r ≡ run_reply d.observation.report)
   LateDoes c (reply_with q) r d = (r ≡ q) × (d ≡ c)
 
   -- what was decided before the start: a denied line leaves the memory as it is
@@ -76,7 +76,7 @@ module _ {S : Type 0} (means : S → Meaning) (steps : S → Request → Answer 
   abbrev pub AnswersOrder : Stage S → Order → Result Reply JobFault → Stage S → Type 0
   AnswersOrder (loading s) o r e = EarlyAnswers s (decision o).before r e
   AnswersOrder (running s c) o r e =
-      (d : Machine S) × LateAnswers c ((decision o).after c.processor c.observed.report) r d × (e ≡ running s d)
+      (d : Machine S) × LateAnswers c ((decision o).after c.processor c.observation.report) r d × (e ≡ running s d)
 
   -- the core, if there is one, can be reached on the pile that it was built on
   abbrev pub StageIsReached : Stage S → Type 0

@@ -1,7 +1,7 @@
 //! Why a line is denied, or a whole job.
 
 ghost use Rattle.std.specs.Prelude.{◌≡◌};
-ghost use Rattle.jobs.specs.Fault.{address_of, number_of};
+ghost use Rattle.jobs.specs.Fault.{denial_address, denial_number};
 ghost use Rattle.jobs.specs.declared.fault.JobFault.TheVariants.{Core, Line, Load};
 
 use bus::settle::BusFault;
@@ -67,7 +67,7 @@ impl JobFault {
     // a match, since variants that hold a fault can have no numbers of their own
     /// The number by which the denial is known.
     pub fn number(self) -> u8
-        ensures { result ≡ number_of self }
+        ensures { result ≡ denial_number self }
     {
         match self {
             JobFault::TooLong => 1,
@@ -81,7 +81,7 @@ impl JobFault {
 
     /// The address of a refused load as it was given, and 0 for every other denial.
     pub fn address(self) -> u32
-        ensures { result ≡ address_of self }
+        ensures { result ≡ denial_address self }
     {
         match self {
             JobFault::Load(fault) => fault.refused.address,

@@ -23,7 +23,7 @@ pub struct Job<'a, B> {
     /// A reply that is given before the next line is done.
     due: Option<Reply>,
     // Pile and processor stand apart: the toolchain writes no proof for a program that names a type which has an
-    // argument with lent bytes and a kept fact in it, as an `Option<Station<B>>` would be.
+    // argument with borrowed bytes and a kept fact in it, as an `Option<Station<B>>` would be.
     /// None only while a line is done.
     pile: Option<B>,
     /// None before the start.

@@ -4,13 +4,13 @@ ghost use Rattle.std.specs.Prelude.{◌≡◌, ◌∷◌, []};
 ghost use Rattle.r3000.specs.Core.{machine_of};
 ghost use Rattle.r3000.specs.Machine.{History, no_history};
 ghost use Rattle.r3000.specs.Promise.{Happens};
-ghost use Rattle.bus.specs.Settled.{Settles};
+ghost use Rattle.bus.specs.Settle.{Settles};
 ghost use Rattle.bus.specs.declared.settle.Settled.{Settled};
 ghost use Rattle.jobs.specs.Decision.{decision};
 ghost use Rattle.jobs.specs.Job.{AnswersLine, denial_reply};
 ghost use Rattle.jobs.specs.Station.{EarlyAnswers, StationDoes, LateAnswers, AnswersOrder, run_reply, load_result};
 ghost use Rattle.jobs.specs.Station.{load_reply, loading, running, stage_of_station, store_request};
-ghost use Rattle.text.specs.Line.{read_line};
+ghost use Rattle.text.specs.Reading.{read_line};
 
 use super::fault::{JobFault, LoadFault};
 use bus::memory::Bus;
@@ -94,8 +94,8 @@ fn before_start<B: Bus>(mut pile: B, order: Order) -> (Station<B>, Result<Reply,
 /// An order after the start.
 fn after_start<B: Bus>(core: &mut Core<B>, order: Order) -> Result<Reply, JobFault>
     ensures { Happens B.Bus.means B.Bus.steps
-        (λ c d. LateAnswers B.Bus.means B.Bus.steps c ((decision order).after c.processor c.observed.report) result d)
-        core.old core.new }
+        (λ c d. LateAnswers B.Bus.means B.Bus.steps c ((decision order).after c.processor c.observation.report)
+        result d) core.old core.new }
 {
     promise::<B>();
     match order {
@@ -154,7 +154,7 @@ impl<B: Bus> Station<B> {
         promise::<B>();
         let (station, end) = match read(line) {
             Ok(order) => self.do_order(order),
-            Err(fault) => (self, Err(JobFault::Line(fault))),
+            Err(fault) => (self, Err(fault.into())),
         };
         (
             station,

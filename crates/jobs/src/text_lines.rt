@@ -3,8 +3,6 @@
 ghost use Rattle.std.specs.Iterator.{YieldsFirstRef, item_count};
 ghost use Rattle.jobs.specs.Job.{text_lines_of};
 
-// A type, and no chain of the library: its meaning is the list of lines, whatever cuts them.
-
 /// The lines that are still to come of a job, each without the byte that ends it.
 #[derive(Drop)]
 pub struct TextLines<'a>(pub &'a [u8]);

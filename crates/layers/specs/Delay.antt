@@ -31,10 +31,10 @@ delay n state m =
     }
 
 -- the state once the memory below has answered: wait keeps counting at 0, done and bus error make the delay idle
-abbrev pub state_after : Access → Answer → State
-state_after x Wait = Counting x 0
-state_after x BusError = Idle
-state_after x (Done v) = Idle
+abbrev pub delay_state_after : Access → Answer → State
+delay_state_after x Wait = Counting x 0
+delay_state_after x BusError = Idle
+delay_state_after x (Done v) = Idle
 
 abbrev pub delay_means : {A : Type 0} → (A → Meaning) → Delay A → Meaning
 delay_means means s = delay s.n s.state (means s.below)
@@ -46,7 +46,7 @@ DelayStepsAt steps count s q a t =
     (t.n ≡ s.n)
     × MatchBool (nat_lt 0 count)
     ((a ≡ Wait) × (t.state ≡ Counting (access_of q) (count - 1)) × (t.below ≡ s.below))
-    (steps s.below q a t.below × (t.state ≡ state_after (access_of q) a))
+    (steps s.below q a t.below × (t.state ≡ delay_state_after (access_of q) a))
 
 abbrev pub DelaySteps : {A : Type 0} → (A → Meaning) → (A → Request → Answer → A → Type 0)
     → Delay A → Request → Answer → Delay A → Type 0

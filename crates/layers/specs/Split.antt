@@ -1,4 +1,4 @@
--- Split: two memories side by side, parted at a mark that is rounded down to a multiple of 4. Assumes nothing.
+-- Split: two memories side by side, separated at a mark that is rounded down to a multiple of 4. Assumes nothing.
 use Rattle.std.specs.Prelude.{◌≡◌, ℕ, max, cond, MatchBool, nat_lt}
 use Rattle.bus.specs.Meaning.{Meaning}
 use Rattle.bus.specs.Request.{word_of}

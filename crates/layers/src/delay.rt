@@ -2,7 +2,7 @@
 
 ghost use Rattle.std.specs.Prelude.{◌≡◌};
 ghost use Rattle.bus.specs.Request.{access_of};
-ghost use Rattle.layers.specs.Delay.{DelaySteps, delay, delay_means, state_after, own_waits};
+ghost use Rattle.layers.specs.Delay.{DelaySteps, delay, delay_means, delay_state_after, own_waits};
 ghost use Rattle.layers.specs.declared.delay.State.TheVariants.{Idle};
 
 use bus::memory::{Bus, MAX_WAIT};
@@ -46,7 +46,7 @@ impl<B: Bus> Delay<B> {
     fn ask(&mut self, q: Request) -> Answer
         ensures n { self.new.n ≡ self.old.n }
         ensures below { B.Bus.steps self.old.below q result self.new.below }
-        ensures state { self.new.state ≡ state_after (access_of q) result }
+        ensures state { self.new.state ≡ delay_state_after (access_of q) result }
     {
         let answer = self.below.request(q);
         self.state = match answer {

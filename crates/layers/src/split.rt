@@ -1,4 +1,4 @@
-//! Split: two memories side by side, parted at a mark.
+//! Split: two memories side by side, separated at a mark.
 
 ghost use Rattle.std.specs.Prelude.{◌≡◌, nat_lt};
 ghost use Rattle.bus.specs.Request.{word_of};

@@ -5,7 +5,7 @@ use lib.Signed.{mag, quot_z, rem_z}
 use Rattle.std.proofs.lemmas.Nat.{div-add-mod', mul-le}
 use Rattle.std.proofs.lemmas.Int.{ints, of_z-to_z, wrapping_mul-bits}
 use Rattle.std.specs.Int.{int_wrap}
-use Rattle.machine.specs.Operation.{integer_of, residue, word}
+use Rattle.machine.specs.Operation.{integer_of, residue, word_of_integer}
 
 pub residue_below : (z : ℤ) → residue z (2 ^ 32) < 2 ^ 32
 residue_below (pos n) = omega arith
@@ -21,13 +21,14 @@ residue_64 (pos n) h = let b : n < 2 ^ 63 = h.sfits in omega arith
 residue_64 (negsuc n) h = let b : n < 2 ^ 63 = h.sfits in omega arith
 
 -- the low half of a product does not depend on the signs
-pub product_low : (x y : ℕ) → x < 2 ^ 32 → y < 2 ^ 32 → (x * y) % 2 ^ 32 ≡ word (integer_of x *ℤ integer_of y)
+pub product_low : (x y : ℕ) → x < 2 ^ 32 → y < 2 ^ 32
+    → (x * y) % 2 ^ 32 ≡ word_of_integer (integer_of x *ℤ integer_of y)
 unfolding int_wrap
 product_low x y p q =
     let below : (x * y) % 2 ^ 32 < 2 ^ 32 = omega arith in
     sym (of_z-to_z w32 ((x * y) % 2 ^ 32) below)
     ∙ ap (of_z w32) (wrapping_mul-bits w32 x y p q)
-    ∙ of_z-to_z w32 (word (integer_of x *ℤ integer_of y)) (residue_below (integer_of x *ℤ integer_of y))
+    ∙ of_z-to_z w32 (word_of_integer (integer_of x *ℤ integer_of y)) (residue_below (integer_of x *ℤ integer_of y))
 
 mag-neg : (n : ℕ) → mag (neg_ℤ (pos n)) ≤ n
 mag-neg zero = omega arith

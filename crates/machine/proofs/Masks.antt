@@ -6,12 +6,12 @@ use Rattle.std.proofs.lemmas.Bool.Decides.{nat_tests}
 use Rattle.std.proofs.lemmas.Nat.{and_comm, and_mask, and_mod, and_le_r, and-not, or_block, or_shifted}
 use Rattle.std.proofs.lemmas.Nat.Bits.{and_high, and_high_mask}
 use Rattle.std.specs.Int.Bits.{or_shifted_r, or_zero_r}
-use Rattle.machine.specs.Interrupt.{code_of, cr_on_entry, cr_with_lines, interrupting, sr_on_entry, sr_on_return}
+use Rattle.machine.specs.Interrupt.{entry_code, cr_on_entry, cr_with_lines, is_interrupting, sr_on_entry, sr_on_return}
 use Rattle.machine.specs.Word.{bit}
 use Rattle.machine.specs.declared.fault.Fault.{Fault}
 
 -- a bit that a mask leaves
-pub bit_0 : (n : ℕ) → (bit_and n 1 ≡ 0 → ⊥) → bit 0 n ≡ true
+bit_0 : (n : ℕ) → (bit_and n 1 ≡ 0 → ⊥) → bit 0 n ≡ true
 bit_0 n h =
     let e : bit_and n 1 ≡ n % 2 = and_mask n 1 in
     let odd : n % 2 ≡ 0 → ⊥ = λ even. h (e ∙ even) in
@@ -57,14 +57,15 @@ code_bits code cr few h =
     rw low (six_low cr (code * 4) h (omega arith))
 
 -- the lines between the high and the low bits of CR
-pub line_bits : (lines cr : ℕ) → cr < 2 ^ 32
-    → bit_or (bit_and cr 4294902783) (lines % 64 * 1024 % 4294967296) ≡ cr_with_lines lines cr
-line_bits lines cr h =
+pub line_bits : (lines cr m : ℕ) → cr < 2 ^ 32 → m ≡ bit_and lines 63
+    → bit_or (bit_and cr 4294902783) (m * 1024 % 4294967296) ≡ cr_with_lines lines cr
+line_bits lines cr m h e =
+    let few : m ≡ lines % 64 = e ∙ and_mask lines 6 in
     let taken : bit_and 64512 cr ≡ cr / 1024 % 64 * 1024 = and_comm 64512 cr ∙ and_high cr 6 10 in
     let left : bit_and 4294902783 cr + bit_and 64512 cr ≡ cr = and-not 32 64512 cr (omega arith) h in
     let kept : bit_and cr 4294902783 ≡ cr / 65536 * 65536 + cr % 1024 =
     and_comm cr 4294902783 ∙ omega (arith, taken, left) in
-    let line : lines % 64 * 1024 % 4294967296 ≡ 0 * 65536 + lines % 64 * 1024 = omega arith in
+    let line : m * 1024 % 4294967296 ≡ 0 * 65536 + lines % 64 * 1024 = omega (arith, few) in
     let whole : bit_or (cr / 65536 * 65536 + cr % 1024) (0 * 65536 + lines % 64 * 1024)
     ≡ bit_or (cr / 65536) 0 * 65536 + bit_or (cr % 1024) (lines % 64 * 1024) =
     or_block 16 (cr / 65536) 0 (cr % 1024) (lines % 64 * 1024) (omega arith) (omega arith) in
@@ -80,10 +81,12 @@ six_bits a b h =
     let whole : b % 64 ≡ b = omega arith in
     small ∙ and_mod a b 6 ∙ ap (bit_and (a % 64)) whole
 
-pub lets_in : (sr lines m : ℕ) → bit 0 sr ≡ true → m ≡ lines % 64
-    → not (eqb (bit_and (sr / 1024) m) 0) ≡ interrupting sr lines
-lets_in sr lines m up e = rw (e, up) (ap (λ n. not (eqb n 0)) (six_bits (sr / 1024) (lines % 64) (omega arith)))
+pub lets_in : (sr lines m : ℕ) → (bit_and sr 1 ≡ 0 → ⊥) → m ≡ bit_and lines 63
+    → not (eqb (bit_and (sr / 1024) m) 0) ≡ is_interrupting sr lines
+lets_in sr lines m up e =
+    let few : m ≡ lines % 64 = e ∙ and_mask lines 6 in
+    rw (few, bit_0 sr up) (ap (λ n. not (eqb n 0)) (six_bits (sr / 1024) (lines % 64) (omega arith)))
 
-pub code_few : (flag : Option Fault) → code_of flag < 16
+pub code_few : (flag : Option Fault) → entry_code flag < 16
 code_few None = omega arith
 code_few (Some c) = grind arith

@@ -3,7 +3,7 @@ use Rattle.std.proofs.Common.{ℕ, zero, suc, ◌+◌, ◌-◌, ◌*◌, ◌/◌
 use Rattle.std.proofs.Common.{[], ◌∷◌, get_or, set, ℤ, pos, negsuc, div-le_self, arith}
 use Rattle.std.proofs.lemmas.Bool.{cond_both}
 use Rattle.std.proofs.lemmas.Nat.{and_le_l, div_below, mul-lt, or_lt, shr_le, xor_lt}
-use Rattle.machine.specs.Fault.{code}
+use Rattle.machine.specs.Fault.{fault_code}
 use Rattle.machine.specs.Interrupt.{cr_with_lines}
 use Rattle.machine.specs.Operation.{one_if, residue, result_of}
 use Rattle.machine.specs.Registers.{Regs, reg, with_register}
@@ -99,7 +99,7 @@ joined_small pc ir h = or_lt 32 (pc / 2 ^ 28 * 2 ^ 28) (jump_index ir) (omega ar
 causes_small : (lines cr : ℕ) → cr < 2 ^ 32 → cr_with_lines lines cr < 2 ^ 32
 causes_small lines cr h = omega arith
 
-code_small : (c : Fault) → code c < 16
+code_small : (c : Fault) → fault_code c < 16
 code_small c = grind arith
 
 pub words_stay_words_lem : WordsStayWords

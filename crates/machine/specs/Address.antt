@@ -3,13 +3,13 @@ use Rattle.std.specs.Prelude.{ℕ, ◌%◌, Bool, not, ◌&&◌, ◌||◌, ◌==
 use Rattle.machine.specs.Word.{bit}
 
 -- user mode is SR bit 1
-abbrev pub user_mode : ℕ → Bool
-user_mode sr = bit 1 sr
+abbrev pub is_user_mode : ℕ → Bool
+is_user_mode sr = bit 1 sr
 
 -- user mode may not use an address with bit 31
-abbrev pub barred : ℕ → ℕ → Bool
-barred sr address = user_mode sr && bit 31 address
+abbrev pub is_barred : ℕ → ℕ → Bool
+is_barred sr address = is_user_mode sr && bit 31 address
 
 -- an address that is no multiple of the size, or that user mode may not use
-abbrev pub misplaced : ℕ → ℕ → ℕ → Bool
-misplaced size sr address = not (address % size == 0) || barred sr address
+abbrev pub is_misplaced : ℕ → ℕ → ℕ → Bool
+is_misplaced size sr address = not (address % size == 0) || is_barred sr address

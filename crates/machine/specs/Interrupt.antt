@@ -1,21 +1,21 @@
 -- Interrupts, and what an entry and a return do to SR and CR. Assumes nothing.
 use Rattle.std.specs.Prelude.{ℕ, ◌+◌, ◌*◌, ◌/◌, ◌%◌, Bool, not, ◌&&◌, Some, None, Option, ◌==◌, bit_and}
-use Rattle.machine.specs.Fault.{code}
+use Rattle.machine.specs.Fault.{fault_code}
 use Rattle.machine.specs.Word.{bit}
 use Rattle.machine.specs.declared.fault.Fault.{Fault}
 
 -- an interrupt is let in: SR bit 0, and some SR bit 10 + n with line n up
-abbrev pub interrupting : ℕ → ℕ → Bool
-interrupting sr lines = bit 0 sr && not (bit_and (sr / 1024 % 64) (lines % 64) == 0)
+abbrev pub is_interrupting : ℕ → ℕ → Bool
+is_interrupting sr lines = bit 0 sr && not (bit_and (sr / 1024 % 64) (lines % 64) == 0)
 
 -- the reset line is bit 6
-abbrev pub resetting : ℕ → Bool
-resetting lines = bit 6 lines
+abbrev pub is_resetting : ℕ → Bool
+is_resetting lines = bit 6 lines
 
 -- the code of what is entered: that of the flag that is up, and 0 for an interrupt
-abbrev pub code_of : Option Fault → ℕ
-code_of None = 0
-code_of (Some f) = code f
+abbrev pub entry_code : Option Fault → ℕ
+entry_code None = 0
+entry_code (Some f) = fault_code f
 
 -- CR as it is read: bits 15 to 10 are the lines IT5 to IT0 as they stood at the last boundary
 abbrev pub cr_with_lines : ℕ → ℕ → ℕ

@@ -35,8 +35,8 @@ abbrev pub residue : ℤ → ℕ → ℕ
 residue z m = unsigned_abs (int_rem_euclid z (pos m))
 
 -- the word of an integer
-abbrev pub word : ℤ → ℕ
-word z = residue z (2 ^ 32)
+abbrev pub word_of_integer : ℤ → ℕ
+word_of_integer z = residue z (2 ^ 32)
 
 -- whether an integer is one that a word stands for
 abbrev pub fits : ℤ → Bool
@@ -56,19 +56,20 @@ result_of Nor x y = 2 ^ 32 - 1 - bit_or x y
 -- shifts take the low five bits of Y; SRA rounds down, which copies the sign
 result_of Sll x y = (x * 2 ^ (y % 32)) % 2 ^ 32
 result_of Srl x y = x / 2 ^ (y % 32)
-result_of Sra x y = word (shr_z (integer_of x) (2 ^ (y % 32)))
+result_of Sra x y = word_of_integer (shr_z (integer_of x) (2 ^ (y % 32)))
 result_of Sltu x y = one_if (nat_lt x y)
 result_of Slt x y = one_if (int_lt (integer_of x) (integer_of y))
 -- the low and the high half of a product of 64 bits, unsigned and signed
 result_of Mul x y = (x * y) % 2 ^ 32
 result_of Muh x y = (x * y) / 2 ^ 32
-result_of Msl x y = word (integer_of x *ℤ integer_of y)
+result_of Msl x y = word_of_integer (integer_of x *ℤ integer_of y)
 result_of Msh x y = residue (integer_of x *ℤ integer_of y) (2 ^ 64) / 2 ^ 32
 -- quotient and remainder; a divisor 0 gives FFFFFFFF and X; signed division cuts toward zero
 result_of Duq x y = cond (y == 0) (2 ^ 32 - 1) (x / y)
 result_of Dur x y = cond (y == 0) x (x - x / y * y)
-result_of Dsq x y = cond (y == 0) (2 ^ 32 - 1) (word (int_div (integer_of x) (integer_of y)))
-result_of Dsr x y = cond (y == 0) x (word (integer_of x -ℤ int_div (integer_of x) (integer_of y) *ℤ integer_of y))
+result_of Dsq x y = cond (y == 0) (2 ^ 32 - 1) (word_of_integer (int_div (integer_of x) (integer_of y)))
+result_of Dsr x y =
+    cond (y == 0) x (word_of_integer (integer_of x -ℤ int_div (integer_of x) (integer_of y) *ℤ integer_of y))
 
 -- signed overflow: a sum or a difference of integers that no word stands for; no other operation overflows
 abbrev pub overflow : Operation → ℕ → ℕ → Bool

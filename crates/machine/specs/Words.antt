@@ -1,6 +1,6 @@
 -- What is written into registers are words. Assumes nothing.
 use Rattle.std.specs.Prelude.{ℕ, ◌^◌, ◌<◌}
-use Rattle.machine.specs.Fault.{code}
+use Rattle.machine.specs.Fault.{fault_code}
 use Rattle.machine.specs.Interrupt.{cr_with_lines}
 use Rattle.machine.specs.Operation.{result_of}
 use Rattle.machine.specs.Registers.{Regs, reg, with_register}
@@ -20,4 +20,4 @@ pub record WordsStayWords : Type 0 where
   -- CR as it is read
   pub cr : (lines cr : ℕ) → cr < 2 ^ 32 → cr_with_lines lines cr < 2 ^ 32
   -- a code has the four bits that CR has for it
-  pub codes : (c : Fault) → code c < 16
+  pub codes : (c : Fault) → fault_code c < 16

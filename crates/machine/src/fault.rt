@@ -1,7 +1,7 @@
 //! The nine faults.
 
 ghost use Rattle.std.specs.Prelude.{◌≡◌};
-ghost use Rattle.machine.specs.Fault.{code};
+ghost use Rattle.machine.specs.Fault.{fault_code};
 
 /// Each fault has the code that CR and the ledger know it by; an interrupt has code 0.
 #[derive(Clone, Copy)]
@@ -26,7 +26,7 @@ pub enum Fault {
 impl Fault {
     /// The code of the fault.
     pub fn code(self) -> u32
-        ensures { result ≡ code self }
+        ensures { result ≡ fault_code self }
     {
         self as u32
     }

@@ -1,7 +1,8 @@
 //! Interrupts, and what an entry and a return do to SR and CR.
 
 ghost use Rattle.std.specs.Prelude.{◌≡◌};
-ghost use Rattle.machine.specs.Interrupt.{code_of, cr_code, cr_on_entry, cr_with_lines, interrupting, resetting};
+ghost use Rattle.machine.specs.Interrupt.{entry_code, cr_code, cr_on_entry, cr_with_lines, is_interrupting};
+ghost use Rattle.machine.specs.Interrupt.{is_resetting};
 ghost use Rattle.machine.specs.Interrupt.{sr_on_entry, sr_on_return};
 
 use super::bits::{
@@ -11,27 +12,31 @@ use super::bits::{
 use super::fault::Fault;
 
 /// SR bit 0 and some SR bit 10 + n are set with line n up.
+#[tactic(auto, using(crate::proofs::Masks::lets_in))]
 pub fn is_interrupting(sr: u32, lines: u8) -> bool
-    ensures { result ≡ interrupting sr lines }
+    ensures { result ≡ is_interrupting sr lines }
 {
     sr & SR_INTERRUPTS != 0 && sr >> IT_SHIFT & u32::from(lines & IT_LINES) != 0
 }
 
 /// The reset line is bit 6.
+#[tactic(auto, using(crate::proofs::Masks::bit_6))]
 pub fn is_resetting(lines: u8) -> bool
-    ensures { result ≡ resetting lines }
+    ensures { result ≡ is_resetting lines }
 {
     lines & RST_LINE != 0
 }
 
 /// CR as it is read: bits 15–10 are the lines IT5–IT0 as they stood at the last boundary.
-pub fn read_cr(lines: u8, cr: u32) -> u32
+#[tactic(auto, using(crate::proofs::Masks::line_bits))]
+pub fn cr_with_lines(lines: u8, cr: u32) -> u32
     ensures { result ≡ cr_with_lines lines cr }
 {
     cr & !CR_LINES | u32::from(lines & IT_LINES) << IT_SHIFT
 }
 
 /// Entry: SR's low six bits move left by two, zeros entering.
+#[tactic(auto, using(crate::proofs::Masks::entry_bits))]
 pub fn sr_on_entry(sr: u32) -> u32
     ensures { result ≡ sr_on_entry sr }
 {
@@ -39,13 +44,15 @@ pub fn sr_on_entry(sr: u32) -> u32
 }
 
 /// Entry: the code of the flag that is up goes to CR's low six bits, times 4; an interrupt has code 0.
+#[tactic(auto, using(crate::proofs::Masks::code_bits, crate::proofs::Masks::code_few))]
 pub fn cr_on_entry(flag: Option<Fault>, cr: u32) -> u32
-    ensures { result ≡ cr_on_entry (code_of flag) cr }
+    ensures { result ≡ cr_on_entry (entry_code flag) cr }
 {
     cr & !CR_ENTRY | flag.map_or(0, Fault::code) << CODE_SHIFT
 }
 
 /// Return: SR bits 5–2 are copied to bits 3–0.
+#[tactic(auto, using(crate::proofs::Masks::return_bits))]
 pub fn sr_on_return(sr: u32) -> u32
     ensures { result ≡ sr_on_return sr }
 {

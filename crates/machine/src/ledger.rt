@@ -3,6 +3,8 @@
 ghost use Rattle.std.specs.Prelude.{◌≡◌, ◌%◌};
 ghost use Rattle.machine.specs.Ledger.{with_entry};
 
+use super::bits::CODE_MASK;
+
 #[derive(Clone, Copy, Default)]
 pub struct Entry {
     pub count: u64,
@@ -22,7 +24,7 @@ impl Ledger {
     pub fn note(&mut self, code: u32, epc: u32)
         ensures { self.new.entries ≡ with_entry (code % 16) epc self.old.entries }
     {
-        let entry = &mut self.entries[(code % 16) as usize];
+        let entry = &mut self.entries[(code & CODE_MASK) as usize];
         entry.count = entry.count.wrapping_add(1);
         entry.epc = epc;
     }

@@ -31,7 +31,7 @@ pub enum Operation {
 fn shift_right_signed(x: u32, y: u32) -> u32
     ensures { result ≡ result_of Sra x y }
 {
-    (x.cast_signed() >> (y % 32)).cast_unsigned()
+    (x.cast_signed() >> (y & 0x1F)).cast_unsigned()
 }
 
 fn signed_product_low(x: u32, y: u32) -> u32
@@ -71,7 +71,6 @@ fn signed_remainder(x: u32, y: u32) -> u32
         .cast_unsigned()
 }
 
-// Two operands, as an operation has them, and so no struct for both.
 impl Operation {
     /// What it gives for X and Y.
     fn result(self, x: u32, y: u32) -> u32
@@ -112,7 +111,7 @@ impl Operation {
     }
 }
 
-/// RES, signed overflow, and whether RES is zero: a tuple, which the cycle takes apart.
+/// RES, signed overflow, and whether RES is zero.
 pub fn operate(operation: Operation, x: u32, y: u32) -> (u32, bool, bool)
     ensures { result ≡ box_output operation x y }
 {

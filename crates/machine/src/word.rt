@@ -58,7 +58,7 @@ pub fn signed_immediate(ir: u32) -> u32
     i32::from(immediate.cast_signed()).cast_unsigned()
 }
 
-/// Four times that.
+/// Four times the signed immediate, as a branch counts words.
 pub fn branch_offset(ir: u32) -> u32
     ensures { result ≡ branch_offset ir }
 {

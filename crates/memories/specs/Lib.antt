@@ -1,4 +1,4 @@
-pub mod Lent
+pub mod Borrowed
 pub mod Placement
 pub mod Ram
 pub mod Region

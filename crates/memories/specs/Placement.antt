@@ -1,12 +1,12 @@
 -- Where a memory may stand. Assumes nothing.
 use Rattle.std.specs.Prelude.{ℕ, ◌+◌, ◌%◌, ◌^◌, Bool, cond, ◌&&◌, List, [], length, Ok, Err, Result, ◌==◌, nat_le}
-use Rattle.memories.specs.declared.placement.Misplaced.{Misplaced}
-use Rattle.memories.specs.declared.placement.Misplaced.TheVariants.{Unaligned, OutOfBounds}
+use Rattle.memories.specs.declared.placement.PlacementFault.{PlacementFault}
+use Rattle.memories.specs.declared.placement.PlacementFault.TheVariants.{Unaligned, OutOfBounds}
 
 -- the number of a denial
-abbrev pub number : Misplaced → ℕ
-number Unaligned = 6
-number OutOfBounds = 7
+abbrev pub denial_number : PlacementFault → ℕ
+denial_number Unaligned = 6
+denial_number OutOfBounds = 7
 
 -- base and length are multiples of 4
 abbrev pub is_aligned : ℕ → ℕ → Bool
@@ -24,7 +24,7 @@ abbrev pub is_in_bounds : ℕ → ℕ → Bool
 is_in_bounds base n = nat_le min_length n && nat_le n max_length && nat_le (base + n) (2 ^ 32)
 
 -- alignment is tried first
-abbrev pub placement : ℕ → ℕ → Result (Unit {0}) Misplaced
+abbrev pub placement : ℕ → ℕ → Result (Unit {0}) PlacementFault
 placement base n = cond (is_aligned base n) (cond (is_in_bounds base n) (Ok tt) (Err OutOfBounds)) (Err Unaligned)
 
 -- how many bytes stand at a base: all, or none where the placement is denied

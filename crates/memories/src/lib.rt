@@ -2,7 +2,7 @@
 
 #![tactic(auto)]
 
-pub mod lent;
+pub mod borrowed;
 pub mod placement;
 pub mod ram;
 mod region;

@@ -1,7 +1,7 @@
 //! Where a memory may stand.
 
 ghost use Rattle.std.specs.Prelude.{◌≡◌};
-ghost use Rattle.memories.specs.Placement.{number, placed_length, placement};
+ghost use Rattle.memories.specs.Placement.{denial_number, placed_length, placement};
 
 /// The shortest memory, in bytes.
 pub const MIN_LENGTH: usize = 4;
@@ -11,32 +11,32 @@ pub const MAX_LENGTH: usize = 1_048_576;
 
 /// Why a memory may not stand at a base.
 #[derive(Clone, Copy, PartialEq, Eq)]
-pub enum Misplaced {
+pub enum PlacementFault {
     /// The base or the length is no multiple of 4.
     Unaligned = 6,
     /// The length is outside `MIN_LENGTH` to `MAX_LENGTH`, or the range ends beyond the last address.
     OutOfBounds = 7,
 }
 
-impl Misplaced {
+impl PlacementFault {
     /// The number by which the denial is known.
     pub fn number(self) -> u8
-        ensures { result ≡ number self }
+        ensures { result ≡ denial_number self }
     {
         self as u8
     }
 }
 
 /// Checks whether a memory of `length` bytes may stand at `base`.
-pub fn check_placement(base: u32, length: usize) -> Result<(), Misplaced>
+pub fn check_placement(base: u32, length: usize) -> Result<(), PlacementFault>
     ensures { result ≡ placement base length }
 {
     let unaligned = base % 4 != 0 || length % 4 != 0;
     let too_long = length < MIN_LENGTH || length > MAX_LENGTH || base as usize + length > 1 << 32;
     if unaligned {
-        Err(Misplaced::Unaligned)
+        Err(PlacementFault::Unaligned)
     } else if too_long {
-        Err(Misplaced::OutOfBounds)
+        Err(PlacementFault::OutOfBounds)
     } else {
         Ok(())
     }

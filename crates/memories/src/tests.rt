@@ -1,7 +1,7 @@
 //! Examples at the edges of every range.
 
-use super::lent::replace_word;
-use super::placement::{Misplaced, check_placement};
+use super::borrowed::replace_word;
+use super::placement::{PlacementFault, check_placement};
 use super::ram::Ram;
 use super::rom::Rom;
 use super::scratch::Scratch;
@@ -10,14 +10,14 @@ use bus::request::{Answer, Request, Width};
 
 #[test]
 fn both_denials(rt: HostRuntime) {
-    assert!(rt; check_placement(0x8000_0002, 3) == Err(Misplaced::Unaligned));
-    assert!(rt; check_placement(0x8000_0000, 0) == Err(Misplaced::OutOfBounds));
-    assert!(rt; check_placement(0x8000_0000, 1_048_580) == Err(Misplaced::OutOfBounds));
+    assert!(rt; check_placement(0x8000_0002, 3) == Err(PlacementFault::Unaligned));
+    assert!(rt; check_placement(0x8000_0000, 0) == Err(PlacementFault::OutOfBounds));
+    assert!(rt; check_placement(0x8000_0000, 1_048_580) == Err(PlacementFault::OutOfBounds));
     assert!(rt; check_placement(0x8000_0000, 1_048_576) == Ok(()));
-    assert!(rt; check_placement(0xFFFF_FFFC, 8) == Err(Misplaced::OutOfBounds));
+    assert!(rt; check_placement(0xFFFF_FFFC, 8) == Err(PlacementFault::OutOfBounds));
     assert!(rt; check_placement(0xFFFF_FFFC, 4) == Ok(()));
-    assert_eq!(rt; Misplaced::Unaligned.number(), 6);
-    assert_eq!(rt; Misplaced::OutOfBounds.number(), 7);
+    assert_eq!(rt; PlacementFault::Unaligned.number(), 6);
+    assert_eq!(rt; PlacementFault::OutOfBounds.number(), 7);
 }
 
 #[test]
@@ -35,7 +35,7 @@ fn ram_at_its_edges(rt: HostRuntime) {
 }
 
 #[test]
-fn lent_bytes_come_back(rt: HostRuntime) {
+fn borrowed_bytes_come_back(rt: HostRuntime) {
     let mut bytes = [0x11, 0x22, 0x33, 0x44, 0x55, 0x66, 0x77, 0x88];
     assert!(rt; replace_word(0x100, &mut bytes, 0x106, 0x0A0B_0C0D) == Some(0x8877_6655));
     assert!(rt; bytes == [0x11, 0x22, 0x33, 0x44, 0x0D, 0x0C, 0x0B, 0x0A]);

@@ -1,7 +1,7 @@
 -- The row that follows is one of the listed successors. Assumes nothing.
 use Rattle.std.proofs.Common.{◌≡◌, ℕ, zero, suc, ◌+◌, ◌*◌, ◌/◌, ◌%◌, ◌<◌, Bool, true, false, refl, sym, suc-mul}
 use Rattle.std.proofs.Common.{Contains, arith}
-use Rattle.machine.specs.Interrupt.{interrupting, resetting}
+use Rattle.machine.specs.Interrupt.{is_interrupting, is_resetting}
 use Rattle.machine.specs.Operation.{one_if}
 use Rattle.machine.specs.Word.{bit, function, opcode, system_number}
 use Rattle.rows.specs.declared.row.Sequencing.TheVariants as s
@@ -27,8 +27,8 @@ rows_listed s.Spec amic g res z lines flag = among 512 4 64 (function g.ir) (ome
 rows_listed s.Movc0 amic g res z lines flag =
     among (amic / 16 * 16) 1 16 (system_number g.ir) (omega arith) _ (omega arith)
 rows_listed s.Rie amic g res z lines flag =
-    among (amic / 8 * 8) 1 8 (one_if (resetting lines) * 4 + one_if (interrupting g.sr lines) * 2 + one_if flag)
-    (omega (arith, one (resetting lines), one (interrupting g.sr lines), one flag)) _ (omega arith)
+    among (amic / 8 * 8) 1 8 (one_if (is_resetting lines) * 4 + one_if (is_interrupting g.sr lines) * 2 + one_if flag)
+    (omega (arith, one (is_resetting lines), one (is_interrupting g.sr lines), one flag)) _ (omega arith)
 rows_listed s.Copro amic g res z lines flag =
     among (amic / 4 * 4) 1 4 (one_if (bit 25 g.ir) * 2 + one_if (bit 23 g.ir))
     (omega (arith, one (bit 25 g.ir), one (bit 23 g.ir))) _ (omega arith)

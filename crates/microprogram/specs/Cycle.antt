@@ -6,8 +6,9 @@ use Rattle.bus.specs.declared.request.Answer.{Answer}
 use Rattle.bus.specs.declared.request.Answer.TheVariants.{BusError, Done}
 use Rattle.bus.specs.declared.request.Request.{Request}
 use Rattle.bus.specs.declared.request.Width.TheVariants.{Word, Half, Byte}
-use Rattle.machine.specs.Address.{barred, misplaced, user_mode}
-use Rattle.machine.specs.Interrupt.{code_of, cr_code, cr_on_entry, cr_with_lines, interrupting, resetting, sr_on_entry}
+use Rattle.machine.specs.Address.{is_barred, is_misplaced, is_user_mode}
+use Rattle.machine.specs.Interrupt.{entry_code, cr_code, cr_on_entry, cr_with_lines, is_interrupting, is_resetting}
+use Rattle.machine.specs.Interrupt.{sr_on_entry}
 use Rattle.machine.specs.Interrupt.{sr_on_return}
 use Rattle.machine.specs.Ledger.{blank_ledger, with_entry}
 use Rattle.machine.specs.Operation.{box_output, one_if}
@@ -33,23 +34,23 @@ use Rattle.rows.specs.declared.row.Transfer.{Transfer}
 use Rattle.rows.specs.declared.row.Transfer.TheVariants as m
 use Rattle.microprogram.specs.declared.chip.Chip.{Chip}
 
--- operand X; the lines are those of the last boundary
+-- operand X; CR is read with the lines that were sampled at the last boundary
 abbrev pub operand_x : ℕ → ℕ → Regs → OperandX → ℕ
-operand_x lines dt g x.Rs = reg g (rs g.ir)
-operand_x lines dt g x.Rt = reg g (rt g.ir)
-operand_x lines dt g x.Pc = g.pc
-operand_x lines dt g x.Ad = g.ad
-operand_x lines dt g x.Hi = g.hi
-operand_x lines dt g x.Lo = g.lo
-operand_x lines dt g x.Epc = g.epc
-operand_x lines dt g x.Bar = g.bar
-operand_x lines dt g x.Sr = g.sr
-operand_x lines dt g x.Cr = cr_with_lines lines g.cr
-operand_x lines dt g x.Dt = dt
-operand_x lines dt g x.Pc4 = g.pc / 2 ^ 28 * 2 ^ 28
-operand_x lines dt g x.C0 = 0
-operand_x lines dt g x.Cz = 0xBFC00000
-operand_x lines dt g x.Ch = 0xFFFF
+operand_x sampled dt g x.Rs = reg g (rs g.ir)
+operand_x sampled dt g x.Rt = reg g (rt g.ir)
+operand_x sampled dt g x.Pc = g.pc
+operand_x sampled dt g x.Ad = g.ad
+operand_x sampled dt g x.Hi = g.hi
+operand_x sampled dt g x.Lo = g.lo
+operand_x sampled dt g x.Epc = g.epc
+operand_x sampled dt g x.Bar = g.bar
+operand_x sampled dt g x.Sr = g.sr
+operand_x sampled dt g x.Cr = cr_with_lines sampled g.cr
+operand_x sampled dt g x.Dt = dt
+operand_x sampled dt g x.Pc4 = g.pc / 2 ^ 28 * 2 ^ 28
+operand_x sampled dt g x.C0 = 0
+operand_x sampled dt g x.Cz = 0xBFC00000
+operand_x sampled dt g x.Ch = 0xFFFF
 
 -- operand Y
 abbrev pub operand_y : ℕ → Regs → OperandY → ℕ
@@ -92,16 +93,16 @@ abbrev pub fault_found : Detection → ℕ → ℕ → Bool → Option Answer �
 fault_found e.Nop sr res over a = None
 fault_found e.Ri sr res over a = Some f.Ri
 fault_found e.Ovf sr res over a = fault_if over f.Ovf
-fault_found e.Cpu sr res over a = fault_if (user_mode sr) f.Cpu
+fault_found e.Cpu sr res over a = fault_if (is_user_mode sr) f.Cpu
 fault_found e.Sys sr res over a = Some f.Sys
 fault_found e.Brk sr res over a = Some f.Brk
-fault_found e.Ww sr res over a = fault_if (misplaced 4 sr res) f.Ades
-fault_found e.Wh sr res over a = fault_if (misplaced 2 sr res) f.Ades
-fault_found e.Wb sr res over a = fault_if (barred sr res) f.Ades
-fault_found e.Lw sr res over a = fault_if (misplaced 4 sr res) f.Adel
-fault_found e.Lh sr res over a = fault_if (misplaced 2 sr res) f.Adel
-fault_found e.Lb sr res over a = fault_if (barred sr res) f.Adel
-fault_found e.If sr res over a = fault_if (misplaced 4 sr res) f.Adel
+fault_found e.Ww sr res over a = fault_if (is_misplaced 4 sr res) f.Ades
+fault_found e.Wh sr res over a = fault_if (is_misplaced 2 sr res) f.Ades
+fault_found e.Wb sr res over a = fault_if (is_barred sr res) f.Ades
+fault_found e.Lw sr res over a = fault_if (is_misplaced 4 sr res) f.Adel
+fault_found e.Lh sr res over a = fault_if (is_misplaced 2 sr res) f.Adel
+fault_found e.Lb sr res over a = fault_if (is_barred sr res) f.Adel
+fault_found e.If sr res over a = fault_if (is_misplaced 4 sr res) f.Adel
 fault_found e.Ibe sr res over a = fault_if (is_bus_error a) f.Ibe
 fault_found e.Dbe sr res over a = fault_if (is_bus_error a) f.Dbe
 fault_found e.Clr sr res over a = None
@@ -148,7 +149,7 @@ regs_with_result r.Sr flag res g = with_sr res g
 regs_with_result r.Rt flag res g = with_register (rt g.ir) res g
 regs_with_result r.Rd flag res g = with_register (rd g.ir) res g
 regs_with_result r.R31 flag res g = with_register 31 res g
-regs_with_result r.Erq flag res g = with_sr (sr_on_entry g.sr) (with_cr (cr_on_entry (code_of flag) g.cr) g)
+regs_with_result r.Erq flag res g = with_sr (sr_on_entry g.sr) (with_cr (cr_on_entry (entry_code flag) g.cr) g)
 regs_with_result r.Rfe flag res g = with_sr (sr_on_return g.sr) g
 
 -- whether the destination may be written: AD is stopped by less than the registers that software sees
@@ -177,7 +178,7 @@ next_row s.Decod amic g res zero lines flag = 256 + opcode g.ir * 4
 next_row s.Spec amic g res zero lines flag = 512 + function g.ir * 4
 next_row s.Movc0 amic g res zero lines flag = amic / 16 * 16 + system_number g.ir
 next_row s.Rie amic g res zero lines flag =
-    amic / 8 * 8 + one_if (resetting lines) * 4 + one_if (interrupting g.sr lines) * 2 + one_if flag
+    amic / 8 * 8 + one_if (is_resetting lines) * 4 + one_if (is_interrupting g.sr lines) * 2 + one_if flag
 next_row s.Copro amic g res zero lines flag = amic / 4 * 4 + one_if (bit 25 g.ir) * 2 + one_if (bit 23 g.ir)
 next_row s.Bcond amic g res zero lines flag = amic / 4 * 4 + one_if (bit 20 g.ir) * 2 + one_if (bit 16 g.ir)
 next_row s.Ad10 amic g res zero lines flag = amic / 4 * 4 + g.ad % 4
@@ -243,8 +244,8 @@ state_after w lines k a c =
     }
 
 -- power-up: everything zero, no flag, row 0
-abbrev pub power_up : State
-power_up =
+abbrev pub state_at_power_up : State
+state_at_power_up =
     record {
       regs = zero_regs;
       dt = 0;

@@ -2,7 +2,8 @@
 
 ghost use Rattle.std.specs.Prelude.{◌≡◌, ◌<◌};
 ghost use Rattle.machine.specs.Registers.{general_with, regs_of};
-ghost use Rattle.microprogram.specs.Cycle.{chip_state, power_up, regs_with_result, row_access, row_output, saves_pc};
+ghost use Rattle.microprogram.specs.Cycle.{chip_state, state_at_power_up, regs_with_result, row_access, row_output};
+ghost use Rattle.microprogram.specs.Cycle.{saves_pc};
 ghost use Rattle.microprogram.specs.Cycle.{state_after, unless_flagged, word_brought};
 
 use super::chip::Chip;
@@ -82,7 +83,7 @@ fn write(registers: &mut Registers, destination: Destination, res: u32)
 impl Chip {
     /// Power-up: everything zero, no flag, row 0.
     pub fn new() -> Chip
-        ensures { chip_state result ≡ power_up }
+        ensures { chip_state result ≡ state_at_power_up }
     {
         // written out: a struct that keeps a fact, as register 0 is zero, derives no `Default`
         let registers = Registers {

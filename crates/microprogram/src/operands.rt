@@ -5,7 +5,7 @@ ghost use Rattle.machine.specs.Registers.{regs_of};
 ghost use Rattle.microprogram.specs.Cycle.{operand_x, operand_y};
 
 use super::chip::Chip;
-use machine::interrupt::read_cr;
+use machine::interrupt::cr_with_lines;
 use machine::word::{Field, branch_offset, jump_index, shift_amount, signed_immediate};
 use rows::row::{OperandX, OperandY};
 
@@ -25,7 +25,7 @@ impl Chip {
             OperandX::Epc => registers.epc,
             OperandX::Bar => registers.bar,
             OperandX::Sr => registers.sr,
-            OperandX::Cr => read_cr(self.sampled, registers.cr),
+            OperandX::Cr => cr_with_lines(self.sampled, registers.cr),
             OperandX::Dt => registers.dt,
             OperandX::Pc4 => registers.pc & 0xF000_0000,
             OperandX::C0 => 0,

@@ -1,7 +1,7 @@
 //! Which row follows.
 
 ghost use Rattle.std.specs.Prelude.{◌≡◌, ◌+◌, ◌*◌, ◌%◌};
-ghost use Rattle.machine.specs.Interrupt.{interrupting, resetting};
+ghost use Rattle.machine.specs.Interrupt.{is_interrupting, is_resetting};
 ghost use Rattle.machine.specs.Operation.{one_if};
 ghost use Rattle.machine.specs.Registers.{regs_of};
 ghost use Rattle.machine.specs.Word.{bit};
@@ -28,7 +28,7 @@ pub fn ends_path(sequencing: Sequencing) -> bool
 
 /// What a boundary adds to AMIC: reset, interrupt, flag.
 fn boundary_choice(sr: u32, lines: u8, flag: bool) -> u16
-    ensures { result ≡ one_if (resetting lines) * 4 + one_if (interrupting sr lines) * 2 + one_if flag }
+    ensures { result ≡ one_if (is_resetting lines) * 4 + one_if (is_interrupting sr lines) * 2 + one_if flag }
 {
     u16::from(is_resetting(lines)) * 4 + u16::from(is_interrupting(sr, lines)) * 2 + u16::from(flag)
 }
@@ -43,15 +43,15 @@ impl Chip {
             Sequencing::Next => amic,
             Sequencing::Decod => 256 + opcode(ir) * 4,
             Sequencing::Spec => 512 + function(ir) * 4,
-            Sequencing::Movc0 => amic / 16 * 16 + system_number(ir),
-            Sequencing::Rie => amic / 8 * 8 + boundary_choice(self.registers.sr, lines, flag),
-            Sequencing::Copro => amic / 4 * 4 + bit(25, ir) * 2 + bit(23, ir),
-            Sequencing::Bcond => amic / 4 * 4 + bit(20, ir) * 2 + bit(16, ir),
-            Sequencing::Ad10 => amic / 4 * 4 + (ad & 3) as u16,
-            Sequencing::Ad1 => amic / 2 * 2 + bit(1, ad),
-            Sequencing::Unsi => amic / 2 * 2 + bit(28, ir),
-            Sequencing::Nul => amic / 2 * 2 + u16::from(zero),
-            Sequencing::Sinul => amic / 4 * 4 + bit(31, res) * 2 + u16::from(zero),
+            Sequencing::Movc0 => (amic & !0xF) + system_number(ir),
+            Sequencing::Rie => (amic & !7) + boundary_choice(self.registers.sr, lines, flag),
+            Sequencing::Copro => (amic & !3) + bit(25, ir) * 2 + bit(23, ir),
+            Sequencing::Bcond => (amic & !3) + bit(20, ir) * 2 + bit(16, ir),
+            Sequencing::Ad10 => (amic & !3) + (ad & 3) as u16,
+            Sequencing::Ad1 => (amic & !1) + bit(1, ad),
+            Sequencing::Unsi => (amic & !1) + bit(28, ir),
+            Sequencing::Nul => (amic & !1) + u16::from(zero),
+            Sequencing::Sinul => (amic & !3) + bit(31, res) * 2 + u16::from(zero),
         }
     }
 }

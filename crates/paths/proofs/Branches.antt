@@ -16,7 +16,7 @@ use Rattle.rows.specs.declared.row.OperandY.TheVariants as y
 use Rattle.rows.specs.declared.row.Row.{Row}
 use Rattle.rows.specs.declared.row.Sequencing.TheVariants as s
 use Rattle.rows.specs.declared.row.Transfer.TheVariants as m
-use Rattle.book.specs.Book.{Book, Refusals, after_fetch, branch_if, effect_of, pc_risen, with_link}
+use Rattle.book.specs.Book.{Book, Refusals, after_fetch, branch_if, effect_of, with_risen_pc, with_link}
 use Rattle.book.specs.Fit.{Fit}
 use Rattle.book.specs.Instruction.{Instruction}
 use Rattle.paths.specs.Path.{world_at}
@@ -142,21 +142,21 @@ module _ (deny : Refusals) (lines : ℕ) (b : Book) (dt : ℕ) (fit : Fit b) (la
 
   compares_gone : (k a n : ℕ) (t : Bool) → t ≡ true
       → walk deny lines (compares k a (gone n)) (world_at b dt 16 None)
-      ≡ ending lines (after_fetch deny (branch_if b t (with_ad other (pc_risen b)))) dt
+      ≡ ending lines (after_fetch deny (branch_if b t (with_ad other (with_risen_pc b)))) dt
   compares_gone k a n t h =
-      ap (λ v. walk deny lines (gone n) (amid b (with_ad v (pc_risen b)) dt None n)) other_word
-      ∙ goes n (with_ad other (pc_risen b)) t h
+      ap (λ v. walk deny lines (gone n) (amid b (with_ad v (with_risen_pc b)) dt None n)) other_word
+      ∙ goes n (with_ad other (with_risen_pc b)) t h
 
   compares_left : (k a n : ℕ) (t : Bool) → t ≡ false
       → walk deny lines (compares k a (left n)) (world_at b dt 16 None)
-      ≡ ending lines (after_fetch deny (branch_if b t (with_ad other (pc_risen b)))) dt
+      ≡ ending lines (after_fetch deny (branch_if b t (with_ad other (with_risen_pc b)))) dt
   compares_left k a n t h =
-      ap (λ v. walk deny lines (left n) (amid b (with_ad v (pc_risen b)) dt None n)) other_word
-      ∙ leaves n (with_ad other (pc_risen b)) t h
+      ap (λ v. walk deny lines (left n) (amid b (with_ad v (with_risen_pc b)) dt None n)) other_word
+      ∙ leaves n (with_ad other (with_risen_pc b)) t h
 
   pub branches_equal_taken :
-      (o : opcode g.ir ≡ 4) (t : eqb (reg (pc_risen b) (rs g.ir)) (reg (pc_risen b) (rt g.ir)) ≡ true)
-      → Reaches deny lines b dt 16 None 6 (effect_of deny b Instruction.branch_equal (pc_risen b))
+      (o : opcode g.ir ≡ 4) (t : eqb (reg (with_risen_pc b) (rs g.ir)) (reg (with_risen_pc b) (rt g.ir)) ≡ true)
+      → Reaches deny lines b dt 16 None 6 (effect_of deny b Instruction.branch_equal (with_risen_pc b))
   unfolding rows
   branches_equal_taken o t =
       record {
@@ -176,8 +176,8 @@ module _ (deny : Refusals) (lines : ℕ) (b : Book) (dt : ℕ) (fit : Fit b) (la
       }
 
   pub branches_equal_not :
-      (o : opcode g.ir ≡ 4) (t : eqb (reg (pc_risen b) (rs g.ir)) (reg (pc_risen b) (rt g.ir)) ≡ false)
-      → Reaches deny lines b dt 16 None 4 (effect_of deny b Instruction.branch_equal (pc_risen b))
+      (o : opcode g.ir ≡ 4) (t : eqb (reg (with_risen_pc b) (rs g.ir)) (reg (with_risen_pc b) (rt g.ir)) ≡ false)
+      → Reaches deny lines b dt 16 None 4 (effect_of deny b Instruction.branch_equal (with_risen_pc b))
   unfolding rows
   branches_equal_not o t =
       record {
@@ -195,8 +195,8 @@ module _ (deny : Refusals) (lines : ℕ) (b : Book) (dt : ℕ) (fit : Fit b) (la
       }
 
   pub branches_unequal_taken :
-      (o : opcode g.ir ≡ 5) (t : not (eqb (reg (pc_risen b) (rs g.ir)) (reg (pc_risen b) (rt g.ir))) ≡ true)
-      → Reaches deny lines b dt 16 None 6 (effect_of deny b Instruction.branch_unequal (pc_risen b))
+      (o : opcode g.ir ≡ 5) (t : not (eqb (reg (with_risen_pc b) (rs g.ir)) (reg (with_risen_pc b) (rt g.ir))) ≡ true)
+      → Reaches deny lines b dt 16 None 6 (effect_of deny b Instruction.branch_unequal (with_risen_pc b))
   unfolding rows
   branches_unequal_taken o t =
       record {
@@ -216,8 +216,8 @@ module _ (deny : Refusals) (lines : ℕ) (b : Book) (dt : ℕ) (fit : Fit b) (la
       }
 
   pub branches_unequal_not :
-      (o : opcode g.ir ≡ 5) (t : not (eqb (reg (pc_risen b) (rs g.ir)) (reg (pc_risen b) (rt g.ir))) ≡ false)
-      → Reaches deny lines b dt 16 None 4 (effect_of deny b Instruction.branch_unequal (pc_risen b))
+      (o : opcode g.ir ≡ 5) (t : not (eqb (reg (with_risen_pc b) (rs g.ir)) (reg (with_risen_pc b) (rt g.ir))) ≡ false)
+      → Reaches deny lines b dt 16 None 4 (effect_of deny b Instruction.branch_unequal (with_risen_pc b))
   unfolding rows
   branches_unequal_not o t =
       record {
@@ -249,7 +249,7 @@ module _ (deny : Refusals) (lines : ℕ) (b : Book) (dt : ℕ) (fit : Fit b) (la
   tests k a rest = (16, init) ∷ (256 + k * 4, tester a) ∷ rest
 
   tests_gone : (k a n : ℕ) (t : Bool) → opcode g.ir ≡ k → row_at (256 + k * 4) ≡ tester a → turned a one ≡ n
-      → row_at n ≡ aim → t ≡ true → Reaches deny lines b dt 16 None 5 (branch_if b t (pc_risen b))
+      → row_at n ≡ aim → t ≡ true → Reaches deny lines b dt 16 None 5 (branch_if b t (with_risen_pc b))
   unfolding rows
   tests_gone k a n t o h1 at h2 k1 =
       record {
@@ -258,11 +258,11 @@ module _ (deny : Refusals) (lines : ℕ) (b : Book) (dt : ℕ) (fit : Fit b) (la
         plain = refl;
         leads = (refl, refl) ↠ (ap (λ i. 256 + i * 4) o, h1) ↠ (at, h2) ↠ (refl, refl) ↠ (refl, refl) ↠ tt;
         last = dt;
-        arrives = goes n (pc_risen b) t k1;
+        arrives = goes n (with_risen_pc b) t k1;
       }
 
   tests_left : (k a n : ℕ) (t : Bool) → opcode g.ir ≡ k → row_at (256 + k * 4) ≡ tester a → turned a one ≡ n
-      → row_at n ≡ fetch → t ≡ false → Reaches deny lines b dt 16 None 3 (branch_if b t (pc_risen b))
+      → row_at n ≡ fetch → t ≡ false → Reaches deny lines b dt 16 None 3 (branch_if b t (with_risen_pc b))
   unfolding rows
   tests_left k a n t o h1 at h2 k1 =
       record {
@@ -271,12 +271,12 @@ module _ (deny : Refusals) (lines : ℕ) (b : Book) (dt : ℕ) (fit : Fit b) (la
         plain = refl;
         leads = (refl, refl) ↠ (ap (λ i. 256 + i * 4) o, h1) ↠ (at, h2) ↠ tt;
         last = dt;
-        arrives = leaves n (pc_risen b) t k1;
+        arrives = leaves n (with_risen_pc b) t k1;
       }
 
   pub branches_not_above_taken :
-      (o : opcode g.ir ≡ 6) (t : le_z (integer_of (reg (pc_risen b) (rs g.ir))) (pos 0) ≡ true)
-      → Reaches deny lines b dt 16 None 5 (effect_of deny b Instruction.branch_not_above (pc_risen b))
+      (o : opcode g.ir ≡ 6) (t : le_z (integer_of (reg (with_risen_pc b) (rs g.ir))) (pos 0) ≡ true)
+      → Reaches deny lines b dt 16 None 5 (effect_of deny b Instruction.branch_not_above (with_risen_pc b))
   unfolding rows
   branches_not_above_taken o t =
       split (sign one)
@@ -289,8 +289,8 @@ module _ (deny : Refusals) (lines : ℕ) (b : Book) (dt : ℕ) (fit : Fit b) (la
       (or_right (sign one) (nought one) (sym (not_above_is one one_small) ∙ t) p)) refl t)
 
   pub branches_not_above_not :
-      (o : opcode g.ir ≡ 6) (t : le_z (integer_of (reg (pc_risen b) (rs g.ir))) (pos 0) ≡ false)
-      → Reaches deny lines b dt 16 None 3 (effect_of deny b Instruction.branch_not_above (pc_risen b))
+      (o : opcode g.ir ≡ 6) (t : le_z (integer_of (reg (with_risen_pc b) (rs g.ir))) (pos 0) ≡ false)
+      → Reaches deny lines b dt 16 None 3 (effect_of deny b Instruction.branch_not_above (with_risen_pc b))
   unfolding rows
   branches_not_above_not o t =
       let q : sign one || nought one ≡ false = sym (not_above_is one one_small) ∙ t in
@@ -298,8 +298,9 @@ module _ (deny : Refusals) (lines : ℕ) (b : Book) (dt : ℕ) (fit : Fit b) (la
       (turn 44 (sign one) (nought one) false false (or_left_none (sign one) (nought one) q)
       (or_right_none (sign one) (nought one) q)) refl t
 
-  pub branches_above_taken : (o : opcode g.ir ≡ 7) (t : lt_z (pos 0) (integer_of (reg (pc_risen b) (rs g.ir))) ≡ true)
-      → Reaches deny lines b dt 16 None 5 (effect_of deny b Instruction.branch_above (pc_risen b))
+  pub branches_above_taken : (o : opcode g.ir ≡ 7)
+      (t : lt_z (pos 0) (integer_of (reg (with_risen_pc b) (rs g.ir))) ≡ true)
+      → Reaches deny lines b dt 16 None 5 (effect_of deny b Instruction.branch_above (with_risen_pc b))
   unfolding rows
   branches_above_taken o t =
       let q : sign one || nought one ≡ false = not_true (sign one || nought one) (sym (above_is one one_small) ∙ t) in
@@ -307,8 +308,9 @@ module _ (deny : Refusals) (lines : ℕ) (b : Book) (dt : ℕ) (fit : Fit b) (la
       (turn 48 (sign one) (nought one) false false (or_left_none (sign one) (nought one) q)
       (or_right_none (sign one) (nought one) q)) refl t
 
-  pub branches_above_not : (o : opcode g.ir ≡ 7) (t : lt_z (pos 0) (integer_of (reg (pc_risen b) (rs g.ir))) ≡ false)
-      → Reaches deny lines b dt 16 None 3 (effect_of deny b Instruction.branch_above (pc_risen b))
+  pub branches_above_not : (o : opcode g.ir ≡ 7)
+      (t : lt_z (pos 0) (integer_of (reg (with_risen_pc b) (rs g.ir))) ≡ false)
+      → Reaches deny lines b dt 16 None 3 (effect_of deny b Instruction.branch_above (with_risen_pc b))
   unfolding rows
   branches_above_not o t =
       split (sign one)
@@ -333,7 +335,7 @@ module _ (deny : Refusals) (lines : ℕ) (b : Book) (dt : ℕ) (fit : Fit b) (la
   signs d a rest = (16, init) ∷ (260, decides) ∷ (d, tester a) ∷ rest
 
   signs_gone : (d a n : ℕ) (t : Bool) → opcode g.ir ≡ 1 → chosen ≡ d → row_at d ≡ tester a → turned a one ≡ n
-      → row_at n ≡ aim → t ≡ true → Reaches deny lines b dt 16 None 6 (branch_if b t (pc_risen b))
+      → row_at n ≡ aim → t ≡ true → Reaches deny lines b dt 16 None 6 (branch_if b t (with_risen_pc b))
   unfolding rows
   signs_gone d a n t o c h1 at h2 k1 =
       record {
@@ -342,11 +344,11 @@ module _ (deny : Refusals) (lines : ℕ) (b : Book) (dt : ℕ) (fit : Fit b) (la
         plain = refl;
         leads = (refl, refl) ↠ (ap (λ i. 256 + i * 4) o, refl) ↠ (c, h1) ↠ (at, h2) ↠ (refl, refl) ↠ (refl, refl) ↠ tt;
         last = dt;
-        arrives = goes n (pc_risen b) t k1;
+        arrives = goes n (with_risen_pc b) t k1;
       }
 
   signs_left : (d a n : ℕ) (t : Bool) → opcode g.ir ≡ 1 → chosen ≡ d → row_at d ≡ tester a → turned a one ≡ n
-      → row_at n ≡ fetch → t ≡ false → Reaches deny lines b dt 16 None 4 (branch_if b t (pc_risen b))
+      → row_at n ≡ fetch → t ≡ false → Reaches deny lines b dt 16 None 4 (branch_if b t (with_risen_pc b))
   unfolding rows
   signs_left d a n t o c h1 at h2 k1 =
       record {
@@ -355,13 +357,13 @@ module _ (deny : Refusals) (lines : ℕ) (b : Book) (dt : ℕ) (fit : Fit b) (la
         plain = refl;
         leads = (refl, refl) ↠ (ap (λ i. 256 + i * 4) o, refl) ↠ (c, h1) ↠ (at, h2) ↠ tt;
         last = dt;
-        arrives = leaves n (pc_risen b) t k1;
+        arrives = leaves n (with_risen_pc b) t k1;
       }
 
   pub branches_below_taken :
       (o : opcode g.ir ≡ 1) (w : bit 16 g.ir ≡ false) (l : bit 20 g.ir ≡ false)
-      (t : lt_z (integer_of (reg (with_link false (pc_risen b)) (rs g.ir))) (pos 0) ≡ true)
-      → Reaches deny lines b dt 16 None 6 (effect_of deny b (Instruction.branch_below false) (pc_risen b))
+      (t : lt_z (integer_of (reg (with_link false (with_risen_pc b)) (rs g.ir))) (pos 0) ≡ true)
+      → Reaches deny lines b dt 16 None 6 (effect_of deny b (Instruction.branch_below false) (with_risen_pc b))
   unfolding rows
   branches_below_taken o w l t =
       let p : sign one ≡ true = sym (below_is one one_small) ∙ t in
@@ -370,8 +372,8 @@ module _ (deny : Refusals) (lines : ℕ) (b : Book) (dt : ℕ) (fit : Fit b) (la
 
   pub branches_below_not :
       (o : opcode g.ir ≡ 1) (w : bit 16 g.ir ≡ false) (l : bit 20 g.ir ≡ false)
-      (t : lt_z (integer_of (reg (with_link false (pc_risen b)) (rs g.ir))) (pos 0) ≡ false)
-      → Reaches deny lines b dt 16 None 4 (effect_of deny b (Instruction.branch_below false) (pc_risen b))
+      (t : lt_z (integer_of (reg (with_link false (with_risen_pc b)) (rs g.ir))) (pos 0) ≡ false)
+      → Reaches deny lines b dt 16 None 4 (effect_of deny b (Instruction.branch_below false) (with_risen_pc b))
   unfolding rows
   branches_below_not o w l t =
       let p : sign one ≡ false = sym (below_is one one_small) ∙ t in
@@ -386,8 +388,8 @@ module _ (deny : Refusals) (lines : ℕ) (b : Book) (dt : ℕ) (fit : Fit b) (la
 
   pub branches_not_below_taken :
       (o : opcode g.ir ≡ 1) (w : bit 16 g.ir ≡ true) (l : bit 20 g.ir ≡ false)
-      (t : le_z (pos 0) (integer_of (reg (with_link false (pc_risen b)) (rs g.ir))) ≡ true)
-      → Reaches deny lines b dt 16 None 6 (effect_of deny b (Instruction.branch_not_below false) (pc_risen b))
+      (t : le_z (pos 0) (integer_of (reg (with_link false (with_risen_pc b)) (rs g.ir))) ≡ true)
+      → Reaches deny lines b dt 16 None 6 (effect_of deny b (Instruction.branch_not_below false) (with_risen_pc b))
   unfolding rows
   branches_not_below_taken o w l t =
       let p : sign one ≡ false = not_true (sign one) (sym (not_below_is one one_small) ∙ t) in
@@ -402,8 +404,8 @@ module _ (deny : Refusals) (lines : ℕ) (b : Book) (dt : ℕ) (fit : Fit b) (la
 
   pub branches_not_below_not :
       (o : opcode g.ir ≡ 1) (w : bit 16 g.ir ≡ true) (l : bit 20 g.ir ≡ false)
-      (t : le_z (pos 0) (integer_of (reg (with_link false (pc_risen b)) (rs g.ir))) ≡ false)
-      → Reaches deny lines b dt 16 None 4 (effect_of deny b (Instruction.branch_not_below false) (pc_risen b))
+      (t : le_z (pos 0) (integer_of (reg (with_link false (with_risen_pc b)) (rs g.ir))) ≡ false)
+      → Reaches deny lines b dt 16 None 4 (effect_of deny b (Instruction.branch_not_below false) (with_risen_pc b))
   unfolding rows
   branches_not_below_not o w l t =
       let p : sign one ≡ true = not_false (sign one) (sym (not_below_is one one_small) ∙ t) in
@@ -415,7 +417,7 @@ module _ (deny : Refusals) (lines : ℕ) (b : Book) (dt : ℕ) (fit : Fit b) (la
   linking d = row x.Pc y.C0 Sum r.R31 m.Nop e.Nop s.Next d
 
   abbrev link_in : ℕ → Regs
-  link_in v = with_register 31 v (pc_risen b)
+  link_in v = with_register 31 v (with_risen_pc b)
 
   next_word : (next + 0) % 2 ^ 32 ≡ next
   next_word = plus_nothing next (below (b.regs.pc + 4))
@@ -424,7 +426,7 @@ module _ (deny : Refusals) (lines : ℕ) (b : Book) (dt : ℕ) (fit : Fit b) (la
   then = reg (link_in next) (rs g.ir)
 
   then_small : then < 2 ^ 32
-  then_small = law.general (pc_risen b) 31 (rs g.ir) next (below (b.regs.pc + 4)) fit.words.general
+  then_small = law.general (with_risen_pc b) 31 (rs g.ir) next (below (b.regs.pc + 4)) fit.words.general
 
   abbrev links : ℕ → ℕ → ℕ → Rows → Rows
   links c d a rest = (16, init) ∷ (260, decides) ∷ (c, linking d) ∷ (d, tester a) ∷ rest
@@ -472,8 +474,8 @@ module _ (deny : Refusals) (lines : ℕ) (b : Book) (dt : ℕ) (fit : Fit b) (la
 
   pub branches_below_link_taken :
       (o : opcode g.ir ≡ 1) (w : bit 16 g.ir ≡ false) (l : bit 20 g.ir ≡ true)
-      (t : lt_z (integer_of (reg (with_link true (pc_risen b)) (rs g.ir))) (pos 0) ≡ true)
-      → Reaches deny lines b dt 16 None 7 (effect_of deny b (Instruction.branch_below true) (pc_risen b))
+      (t : lt_z (integer_of (reg (with_link true (with_risen_pc b)) (rs g.ir))) (pos 0) ≡ true)
+      → Reaches deny lines b dt 16 None 7 (effect_of deny b (Instruction.branch_below true) (with_risen_pc b))
   unfolding rows
   branches_below_link_taken o w l t =
       let p : sign then ≡ true = sym (below_is then then_small) ∙ t in
@@ -482,8 +484,8 @@ module _ (deny : Refusals) (lines : ℕ) (b : Book) (dt : ℕ) (fit : Fit b) (la
 
   pub branches_below_link_not :
       (o : opcode g.ir ≡ 1) (w : bit 16 g.ir ≡ false) (l : bit 20 g.ir ≡ true)
-      (t : lt_z (integer_of (reg (with_link true (pc_risen b)) (rs g.ir))) (pos 0) ≡ false)
-      → Reaches deny lines b dt 16 None 5 (effect_of deny b (Instruction.branch_below true) (pc_risen b))
+      (t : lt_z (integer_of (reg (with_link true (with_risen_pc b)) (rs g.ir))) (pos 0) ≡ false)
+      → Reaches deny lines b dt 16 None 5 (effect_of deny b (Instruction.branch_below true) (with_risen_pc b))
   unfolding rows
   branches_below_link_not o w l t =
       let p : sign then ≡ false = sym (below_is then then_small) ∙ t in
@@ -498,8 +500,8 @@ module _ (deny : Refusals) (lines : ℕ) (b : Book) (dt : ℕ) (fit : Fit b) (la
 
   pub branches_not_below_link_taken :
       (o : opcode g.ir ≡ 1) (w : bit 16 g.ir ≡ true) (l : bit 20 g.ir ≡ true)
-      (t : le_z (pos 0) (integer_of (reg (with_link true (pc_risen b)) (rs g.ir))) ≡ true)
-      → Reaches deny lines b dt 16 None 7 (effect_of deny b (Instruction.branch_not_below true) (pc_risen b))
+      (t : le_z (pos 0) (integer_of (reg (with_link true (with_risen_pc b)) (rs g.ir))) ≡ true)
+      → Reaches deny lines b dt 16 None 7 (effect_of deny b (Instruction.branch_not_below true) (with_risen_pc b))
   unfolding rows
   branches_not_below_link_taken o w l t =
       let p : sign then ≡ false = not_true (sign then) (sym (not_below_is then then_small) ∙ t) in
@@ -514,8 +516,8 @@ module _ (deny : Refusals) (lines : ℕ) (b : Book) (dt : ℕ) (fit : Fit b) (la
 
   pub branches_not_below_link_not :
       (o : opcode g.ir ≡ 1) (w : bit 16 g.ir ≡ true) (l : bit 20 g.ir ≡ true)
-      (t : le_z (pos 0) (integer_of (reg (with_link true (pc_risen b)) (rs g.ir))) ≡ false)
-      → Reaches deny lines b dt 16 None 5 (effect_of deny b (Instruction.branch_not_below true) (pc_risen b))
+      (t : le_z (pos 0) (integer_of (reg (with_link true (with_risen_pc b)) (rs g.ir))) ≡ false)
+      → Reaches deny lines b dt 16 None 5 (effect_of deny b (Instruction.branch_not_below true) (with_risen_pc b))
   unfolding rows
   branches_not_below_link_not o w l t =
       let p : sign then ≡ true = not_false (sign then) (sym (not_below_is then then_small) ∙ t) in

@@ -27,9 +27,10 @@ use Rattle.machine.specs.declared.operation.Operation.TheVariants.{
   Dsr,
 }
 use Rattle.rows.specs.Rows.{rows}
-use Rattle.book.specs.Book.{Book, Effect, Refusals, effect_of, pc_risen, with_link}
+use Rattle.book.specs.Book.{Book, Effect, Refusals, effect_of, with_risen_pc, with_link}
 use Rattle.book.specs.Fit.{Fit}
-use Rattle.book.specs.Instruction.{Instruction, branch_instruction, decoded, functions, opcodes, system_instruction}
+use Rattle.book.specs.Instruction.{Instruction, branch_instruction, instruction_of, functions, opcodes}
+use Rattle.book.specs.Instruction.{system_instruction}
 use Rattle.book.specs.Instruction.{table_entry}
 use Rattle.book.specs.Length.{instruction_length}
 use Rattle.paths.proofs.Branches.{branches_above_not, branches_above_taken, branches_below_link_not}
@@ -55,7 +56,7 @@ module _ (deny : Refusals) (lines : ℕ) (b : Book) (dt : ℕ) (fit : Fit b) (la
   ir = b.regs.ir
 
   abbrev g : Regs
-  g = pc_risen b
+  g = with_risen_pc b
 
   -- the path of an instruction
   abbrev Path : Instruction → Type 0
@@ -261,7 +262,7 @@ module _ (deny : Refusals) (lines : ℕ) (b : Book) (dt : ℕ) (fit : Fit b) (la
       go false false p q = from_system_lem o p q
 
   -- by the opcode
-  pub decodes : Path (decoded ir)
+  pub decodes : Path (instruction_of ir)
   unfolding rows
   decodes =
       among (λ k. opcode ir ≡ k → Path (table_entry k (opcodes ir) Instruction.unassigned_opcode)) 64 (opcode ir)

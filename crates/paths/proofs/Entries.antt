@@ -1,7 +1,7 @@
 -- Resets, exceptions and interrupts. Assumes nothing.
 use Rattle.std.proofs.Common.{◌≡◌, ℕ, ◌+◌, ◌-◌, ◌%◌, ◌^◌, ◌<◌, List, [], ◌∷◌, Some, None, Option, refl, ap, ◌∙◌, arith}
 use Rattle.bus.specs.Request.{word_of}
-use Rattle.machine.specs.Fault.{code}
+use Rattle.machine.specs.Fault.{fault_code}
 use Rattle.machine.specs.Interrupt.{cr_code, cr_on_entry, sr_on_entry}
 use Rattle.machine.specs.Ledger.{with_entry}
 use Rattle.machine.specs.Registers.{Regs, with_bar, with_cr, with_epc, with_pc, with_sr}
@@ -61,7 +61,7 @@ barring : (deny : Refusals) (lines : ℕ) (g : Regs) (ledger : List Entry) (byte
     → walk deny lines ((27, bars) ∷ []) (spot g ledger bytes old dt n)
     ≡ ending lines
     (after_fetch deny
-    (record { regs = with_bar g.ad g; ledger = ledger; bytes = bytes; fault = None; mask = g.sr })) dt
+    (record { regs = with_bar g.ad g; ledger = ledger; bytes = bytes; fault = None; event_sr = g.sr })) dt
 barring deny lines g ledger bytes old dt n h =
     split (deny.unreadable (word_of g.pc)) (λ q. simp (q, nothing_plus g.ad h)) (λ q. simp (q, nothing_plus g.ad h))
 
@@ -112,7 +112,7 @@ module _ (deny : Refusals) (lines : ℕ) (b : Book) (dt : ℕ) (fit : Fit b) (la
   excepts_walk : (n : ℕ) (c : Fault)
       → walk deny lines (excepts_rows n) (world_at b dt n (Some c))
       ≡ ending lines (after_fetch deny (before_fetch deny b (Event.exception c))) dt
-  excepts_walk n c = enters_walk (code c) ((g.pc + (2 ^ 32 - 4)) % 2 ^ 32) (law.codes c)
+  excepts_walk n c = enters_walk (fault_code c) ((g.pc + (2 ^ 32 - 4)) % 2 ^ 32) (law.codes c)
 
   pub excepts : (n : ℕ) (c : Fault) (h1 : row_at n ≡ excepts_row)
       → Reaches deny lines b dt n (Some c) 4 (before_fetch deny b (Event.exception c))

@@ -1,7 +1,7 @@
 -- Jumps, and how a path that goes to another address ends. Assumes nothing.
 use Rattle.std.proofs.Common.{◌≡◌, ℕ, ◌+◌, ◌*◌, ◌%◌, ◌^◌, ◌<◌, Bool, true, false, cond, [], ◌∷◌, None, refl, ap}
 use Rattle.std.proofs.Common.{◌∙◌}
-use Rattle.machine.specs.Address.{misplaced}
+use Rattle.machine.specs.Address.{is_misplaced}
 use Rattle.machine.specs.Registers.{Regs, reg, with_ad, with_pc, with_register}
 use Rattle.machine.specs.Word.{function, jump_address, opcode, rd, rs}
 use Rattle.machine.specs.Words.{WordsStayWords}
@@ -16,7 +16,7 @@ use Rattle.rows.specs.declared.row.Row.{Row}
 use Rattle.rows.specs.declared.row.Sequencing.TheVariants as s
 use Rattle.rows.specs.declared.row.Transfer.TheVariants as m
 use Rattle.microprogram.specs.Cycle.{fault_if}
-use Rattle.book.specs.Book.{Book, Refusals, after_fetch, effect_of, jump_to, pc_risen, with_fault, without_fault}
+use Rattle.book.specs.Book.{Book, Refusals, after_fetch, effect_of, jump_to, with_risen_pc, with_fault, without_fault}
 use Rattle.book.specs.Fit.{Fit}
 use Rattle.book.specs.Instruction.{Instruction}
 use Rattle.paths.specs.Instant.{World}
@@ -29,7 +29,7 @@ branch = row x.Ad y.C0 Sum r.Pc m.Nop e.Nop s.Next 15
 
 -- the world in which a target has come to AD
 abbrev pub landing : Book → ℕ → Regs → ℕ → World
-landing b dt g t = amid b (with_ad t g) dt (fault_if (misplaced 4 g.sr t) f.Adel) 31
+landing b dt g t = amid b (with_ad t g) dt (fault_if (is_misplaced 4 g.sr t) f.Adel) 31
 
 arrives_if : (deny : Refusals) (lines : ℕ) (b : Book) (dt : ℕ) (g : Regs) (t : ℕ) → t < 2 ^ 32 → (bad : Bool) →
     walk deny lines ((31, branch) ∷ (15, fetch) ∷ []) (amid b (with_ad t g) dt (fault_if bad f.Adel) 31)
@@ -45,7 +45,7 @@ arrives_if deny lines b dt g t h false =
 pub lands : (deny : Refusals) (lines : ℕ) (b : Book) (dt : ℕ) (g : Regs) (t : ℕ) → t < 2 ^ 32 →
     walk deny lines ((31, branch) ∷ (15, fetch) ∷ []) (landing b dt g t)
     ≡ ending lines (after_fetch deny (jump_to b t g)) dt
-lands deny lines b dt g t h = arrives_if deny lines b dt g t h (misplaced 4 g.sr t)
+lands deny lines b dt g t h = arrives_if deny lines b dt g t h (is_misplaced 4 g.sr t)
 
 module _ (deny : Refusals) (lines : ℕ) (b : Book) (dt : ℕ) (fit : Fit b) (law : WordsStayWords) where
   abbrev g : Regs
@@ -65,14 +65,14 @@ module _ (deny : Refusals) (lines : ℕ) (b : Book) (dt : ℕ) (fit : Fit b) (la
 
   jumps_register_walk :
       walk deny lines jumps_register_rows (world_at b dt 16 None)
-      ≡ ending lines (after_fetch deny (effect_of deny b Instruction.jump_register (pc_risen b))) dt
+      ≡ ending lines (after_fetch deny (effect_of deny b Instruction.jump_register (with_risen_pc b))) dt
   jumps_register_walk =
-      ap (λ t. walk deny lines after (landing b dt (pc_risen b) t))
+      ap (λ t. walk deny lines after (landing b dt (with_risen_pc b) t))
       (plus_nothing (reg g (rs g.ir)) (fit.words.general (rs g.ir)))
-      ∙ lands deny lines b dt (pc_risen b) (reg g (rs g.ir)) (fit.words.general (rs g.ir))
+      ∙ lands deny lines b dt (with_risen_pc b) (reg g (rs g.ir)) (fit.words.general (rs g.ir))
 
   pub jumps_register : (o : opcode g.ir ≡ 0) (fe : function g.ir ≡ 8)
-      → Reaches deny lines b dt 16 None 5 (effect_of deny b Instruction.jump_register (pc_risen b))
+      → Reaches deny lines b dt 16 None 5 (effect_of deny b Instruction.jump_register (with_risen_pc b))
   unfolding rows
   jumps_register o fe =
       record {
@@ -92,10 +92,10 @@ module _ (deny : Refusals) (lines : ℕ) (b : Book) (dt : ℕ) (fit : Fit b) (la
 
   -- the registers after a link in RD, and RS then
   abbrev link_in : ℕ → ℕ → Regs
-  link_in n v = with_register n v (pc_risen b)
+  link_in n v = with_register n v (with_risen_pc b)
 
   link_small : (n k : ℕ) → reg (link_in n next) k < 2 ^ 32
-  link_small n k = law.general (pc_risen b) n k next (below (b.regs.pc + 4)) fit.words.general
+  link_small n k = law.general (with_risen_pc b) n k next (below (b.regs.pc + 4)) fit.words.general
 
   abbrev jumps_link_register_rows : Rows
   jumps_link_register_rows =
@@ -107,7 +107,7 @@ module _ (deny : Refusals) (lines : ℕ) (b : Book) (dt : ℕ) (fit : Fit b) (la
 
   jumps_link_register_walk :
       walk deny lines jumps_link_register_rows (world_at b dt 16 None)
-      ≡ ending lines (after_fetch deny (effect_of deny b Instruction.jump_link_register (pc_risen b))) dt
+      ≡ ending lines (after_fetch deny (effect_of deny b Instruction.jump_link_register (with_risen_pc b))) dt
   jumps_link_register_walk =
       ap (λ v.
       walk deny lines ((544, row x.Rs y.C0 Sum r.Ad m.Nop e.If s.Next 31) ∷ after)
@@ -118,7 +118,7 @@ module _ (deny : Refusals) (lines : ℕ) (b : Book) (dt : ℕ) (fit : Fit b) (la
       (link_small (rd g.ir) (rs g.ir))
 
   pub jumps_link_register : (o : opcode g.ir ≡ 0) (fe : function g.ir ≡ 9)
-      → Reaches deny lines b dt 16 None 6 (effect_of deny b Instruction.jump_link_register (pc_risen b))
+      → Reaches deny lines b dt 16 None 6 (effect_of deny b Instruction.jump_link_register (with_risen_pc b))
   unfolding rows
   jumps_link_register o fe =
       record {
@@ -148,11 +148,11 @@ module _ (deny : Refusals) (lines : ℕ) (b : Book) (dt : ℕ) (fit : Fit b) (la
 
   jumps_walk :
       walk deny lines jumps_rows (world_at b dt 16 None)
-      ≡ ending lines (after_fetch deny (effect_of deny b Instruction.jump (pc_risen b))) dt
-  jumps_walk = lands deny lines b dt (pc_risen b) aimed aimed_small
+      ≡ ending lines (after_fetch deny (effect_of deny b Instruction.jump (with_risen_pc b))) dt
+  jumps_walk = lands deny lines b dt (with_risen_pc b) aimed aimed_small
 
   pub jumps : (o : opcode g.ir ≡ 2)
-      → Reaches deny lines b dt 16 None 4 (effect_of deny b Instruction.jump (pc_risen b))
+      → Reaches deny lines b dt 16 None 4 (effect_of deny b Instruction.jump (with_risen_pc b))
   unfolding rows
   jumps o =
       record {
@@ -173,13 +173,13 @@ module _ (deny : Refusals) (lines : ℕ) (b : Book) (dt : ℕ) (fit : Fit b) (la
 
   jumps_link_walk :
       walk deny lines jumps_link_rows (world_at b dt 16 None)
-      ≡ ending lines (after_fetch deny (effect_of deny b Instruction.jump_link (pc_risen b))) dt
+      ≡ ending lines (after_fetch deny (effect_of deny b Instruction.jump_link (with_risen_pc b))) dt
   jumps_link_walk =
       ap (λ v. walk deny lines after (landing b dt (link_in 31 v) aimed)) next_word
       ∙ lands deny lines b dt (link_in 31 next) aimed aimed_small
 
   pub jumps_link : (o : opcode g.ir ≡ 3)
-      → Reaches deny lines b dt 16 None 5 (effect_of deny b Instruction.jump_link (pc_risen b))
+      → Reaches deny lines b dt 16 None 5 (effect_of deny b Instruction.jump_link (with_risen_pc b))
   unfolding rows
   jumps_link o =
       record {

@@ -7,7 +7,7 @@ use Rattle.bus.specs.Request.{word_of}
 use Rattle.bus.specs.declared.request.Answer.TheVariants.{BusError, Done}
 use Rattle.bus.specs.declared.request.Width.{Width}
 use Rattle.bus.specs.declared.request.Width.TheVariants.{Word, Half, Byte}
-use Rattle.machine.specs.Address.{barred, misplaced}
+use Rattle.machine.specs.Address.{is_barred, is_misplaced}
 use Rattle.machine.specs.Operation.{one_if, result_of}
 use Rattle.machine.specs.Registers.{Regs, with_ad, with_ir, with_register}
 use Rattle.machine.specs.Word.{bit, opcode, rt}
@@ -28,7 +28,8 @@ use Rattle.rows.specs.declared.row.Row.{Row}
 use Rattle.rows.specs.declared.row.Sequencing.TheVariants as s
 use Rattle.rows.specs.declared.row.Transfer.TheVariants as m
 use Rattle.microprogram.specs.Cycle.{fault_if, operand_x, operand_y, row_output, state_after}
-use Rattle.book.specs.Book.{Book, Effect, Refusals, address, after_fetch, as_word, effect_of, pc_risen, raised_byte}
+use Rattle.book.specs.Book.{Book, Effect, Refusals, address, after_fetch, as_word, effect_of, with_risen_pc}
+use Rattle.book.specs.Book.{raised_byte}
 use Rattle.book.specs.Book.{raised_half, with_fault, without_fault}
 use Rattle.book.specs.Fit.{Fit}
 use Rattle.book.specs.Instruction.{Instruction}
@@ -42,9 +43,9 @@ checking Half = e.Lh
 checking Byte = e.Lb
 
 abbrev bad : Width → ℕ → ℕ → Bool
-bad Word sr at = misplaced 4 sr at
-bad Half sr at = misplaced 2 sr at
-bad Byte sr at = barred sr at
+bad Word sr at = is_misplaced 4 sr at
+bad Half sr at = is_misplaced 2 sr at
+bad Byte sr at = is_barred sr at
 
 -- the address
 abbrev addressing : Width → ℕ → Row
@@ -131,14 +132,14 @@ final_by :
       ledger = b.ledger;
       bytes = b.bytes;
       fault = Some f.Ibe;
-      mask = g.sr;
+      event_sr = g.sr;
     })
     (record {
       regs = with_ir word (with_register (rt g.ir) value.0 g);
       ledger = b.ledger;
       bytes = b.bytes;
       fault = None;
-      mask = g.sr;
+      event_sr = g.sr;
     })) dt)
 final_by lines b g dt k a c op value word true = refl
 final_by lines b g dt k a c op value word false = refl
@@ -234,7 +235,7 @@ low_next n p h = omega arith
 high_next : (n : ℕ) → n % 2 ≡ 0 → n / 2 % 2 ≡ 1 → n + 1 ≡ n - n % 4 + 3
 high_next n p h = omega arith
 
-even : (sr n : ℕ) → misplaced 2 sr n ≡ false → n % 2 ≡ 0
+even : (sr n : ℕ) → is_misplaced 2 sr n ≡ false → n % 2 ≡ 0
 even sr n h = grind (arith, nat_tests)
 
 bit_32 : (ir : ℕ) → opcode ir ≡ 32 → bit 28 ir ≡ false
@@ -279,11 +280,11 @@ module _ (deny : Refusals) (lines : ℕ) (b : Book) (dt : ℕ) (fit : Fit b) (la
   g = b.regs
 
   abbrev at : ℕ
-  at = address (pc_risen b)
+  at = address (with_risen_pc b)
 
   -- the registers with the address in AD
   abbrev aimed : Regs
-  aimed = with_ad at (pc_risen b)
+  aimed = with_ad at (with_risen_pc b)
 
   -- the word that is loaded, and DT afterwards
   abbrev the_word : ℕ
@@ -319,17 +320,17 @@ module _ (deny : Refusals) (lines : ℕ) (b : Book) (dt : ℕ) (fit : Fit b) (la
 
   loads_word_walk :
       walk deny lines loads_word_rows (world_at b dt 16 None)
-      ≡ ending lines (after_fetch deny (effect_of deny b Instruction.load_word (pc_risen b))) (dt_after Word)
+      ≡ ending lines (after_fetch deny (effect_of deny b Instruction.load_word (with_risen_pc b))) (dt_after Word)
   loads_word_walk =
       ap (walk deny lines word_rest) (begin Word 396 397)
       ∙ rest_out deny lines b aimed dt 398 word_rest (without_fault b (with_register (rt g.ir) the_word aimed))
-      the_word (λ c. refl) (misplaced 4 g.sr at) (deny.unreadable (word_of at))
+      the_word (λ c. refl) (is_misplaced 4 g.sr at) (deny.unreadable (word_of at))
       (λ q.
       final_row deny lines b aimed the_word 398 x.C0 y.Dt Sum the_word
       (nothing_plus the_word (word_small b fit (word_of at))))
 
   pub loads_word : (o : opcode g.ir ≡ 35)
-      → Reaches deny lines b dt 16 None 4 (effect_of deny b Instruction.load_word (pc_risen b))
+      → Reaches deny lines b dt 16 None 4 (effect_of deny b Instruction.load_word (with_risen_pc b))
   unfolding rows
   loads_word o =
       record {
@@ -358,13 +359,14 @@ module _ (deny : Refusals) (lines : ℕ) (b : Book) (dt : ℕ) (fit : Fit b) (la
       (up : result_of op the_word (operand_y the_word aimed c) ≡ low + v * 2 ^ 24)
       (raise : raised_byte at the_word ≡ low + v * 2 ^ 24) (this : b.bytes at ≡ v)
       → walk deny lines (byte_rows sign k l c op) (world_at b dt 16 None)
-      ≡ ending lines (after_fetch deny (effect_of deny b (Instruction.load_byte sign) (pc_risen b))) (dt_after Byte)
+      ≡ ending lines (after_fetch deny (effect_of deny b (Instruction.load_byte sign) (with_risen_pc b)))
+      (dt_after Byte)
   byte_walk sign k l c op low v p q up raise this =
       ap (walk deny lines (byte_rest sign l c op)) (begin Byte k 385)
       ∙ rest_out deny lines b aimed dt (after Byte at) (byte_rest sign l c op)
       (without_fault b
       (with_register (rt g.ir) (as_word sign 8 (b.bytes at)) (with_ad (raised_byte at the_word) aimed))) the_word
-      (λ i. refl) (barred g.sr at) (deny.unreadable (word_of at))
+      (λ i. refl) (is_barred g.sr at) (deny.unreadable (word_of at))
       (λ o.
       lane_rows deny lines b aimed the_word (after Byte at) (56 + one_if (not sign)) 56 c y.C24 op (down sign)
       (raised_byte at the_word) (as_word sign 8 (b.bytes at)) (up ∙ sym raise)
@@ -378,7 +380,7 @@ module _ (deny : Refusals) (lines : ℕ) (b : Book) (dt : ℕ) (fit : Fit b) (la
       (h1 : row_at k ≡ addressing Byte 385) (h2 : row_at (52 + l) ≡ lane c op 56)
       (h3 : row_at (56 + one_if (not sign)) ≡ final x.Ad y.C24 (down sign))
       (plainly : only_last (byte_rows sign k l c op) ≡ true)
-      → Reaches deny lines b dt 16 None 5 (effect_of deny b (Instruction.load_byte sign) (pc_risen b))
+      → Reaches deny lines b dt 16 None 5 (effect_of deny b (Instruction.load_byte sign) (with_risen_pc b))
   unfolding rows
   byte_lane sign k j l c op low v p q up raise this o jk h i h1 h2 h3 plainly =
       record {
@@ -431,7 +433,7 @@ module _ (deny : Refusals) (lines : ℕ) (b : Book) (dt : ℕ) (fit : Fit b) (la
       (sign : Bool) (j : ℕ) (o : opcode g.ir ≡ j) (i : bit 28 g.ir ≡ not sign)
       (h1 : row_at (256 + j * 4) ≡ addressing Byte 385)
       (h3 : row_at (56 + one_if (not sign)) ≡ final x.Ad y.C24 (down sign))
-      → Reaches deny lines b dt 16 None 5 (effect_of deny b (Instruction.load_byte sign) (pc_risen b))
+      → Reaches deny lines b dt 16 None 5 (effect_of deny b (Instruction.load_byte sign) (with_risen_pc b))
   unfolding rows
   byte_any sign j o i h1 h3 =
       let p0 : b0 < 256 = fit.bytes from in
@@ -455,12 +457,12 @@ module _ (deny : Refusals) (lines : ℕ) (b : Book) (dt : ℕ) (fit : Fit b) (la
       (ap b.bytes (lane_at at 3 h)) o refl h i h1 refl h3 refl)
 
   pub loads_byte_signed : (o : opcode g.ir ≡ 32)
-      → Reaches deny lines b dt 16 None 5 (effect_of deny b (Instruction.load_byte true) (pc_risen b))
+      → Reaches deny lines b dt 16 None 5 (effect_of deny b (Instruction.load_byte true) (with_risen_pc b))
   unfolding rows
   loads_byte_signed o = byte_any true 32 o (bit_32 g.ir o) refl refl
 
   pub loads_byte_plain : (o : opcode g.ir ≡ 36)
-      → Reaches deny lines b dt 16 None 5 (effect_of deny b (Instruction.load_byte false) (pc_risen b))
+      → Reaches deny lines b dt 16 None 5 (effect_of deny b (Instruction.load_byte false) (with_risen_pc b))
   unfolding rows
   loads_byte_plain o = byte_any false 36 o (bit_36 g.ir o) refl refl
 
@@ -485,13 +487,14 @@ module _ (deny : Refusals) (lines : ℕ) (b : Book) (dt : ℕ) (fit : Fit b) (la
       (up : result_of op the_word (operand_y the_word aimed c) ≡ low + v * 2 ^ 16)
       (raise : raised_half at the_word ≡ low + v * 2 ^ 16) (this : at % 2 ≡ 0 → the_half ≡ v)
       → walk deny lines (half_rows sign k l c op) (world_at b dt 16 None)
-      ≡ ending lines (after_fetch deny (effect_of deny b (Instruction.load_half sign) (pc_risen b))) (dt_after Half)
+      ≡ ending lines (after_fetch deny (effect_of deny b (Instruction.load_half sign) (with_risen_pc b)))
+      (dt_after Half)
   half_walk sign k l c op low v p q up raise this =
       ap (walk deny lines (half_rest sign l c op)) (begin Half k 389)
       ∙ rest_out deny lines b aimed dt (after Half at) (half_rest sign l c op)
       (without_fault b
       (with_register (rt g.ir) (as_word sign 16 the_half) (with_ad (raised_half at the_word) aimed))) the_word
-      (λ i. refl) (misplaced 2 g.sr at) (deny.unreadable (word_of at))
+      (λ i. refl) (is_misplaced 2 g.sr at) (deny.unreadable (word_of at))
       (λ o.
       lane_rows deny lines b aimed the_word (after Half at) (60 + one_if (not sign)) 60 c y.C16 op (down sign)
       (raised_half at the_word) (as_word sign 16 the_half) (up ∙ sym raise)
@@ -506,7 +509,7 @@ module _ (deny : Refusals) (lines : ℕ) (b : Book) (dt : ℕ) (fit : Fit b) (la
       (h1 : row_at k ≡ addressing Half 389) (h2 : row_at (58 + l) ≡ lane c op 60)
       (h3 : row_at (60 + one_if (not sign)) ≡ final x.Ad y.C16 (down sign))
       (plainly : only_last (half_rows sign k l c op) ≡ true)
-      → Reaches deny lines b dt 16 None 5 (effect_of deny b (Instruction.load_half sign) (pc_risen b))
+      → Reaches deny lines b dt 16 None 5 (effect_of deny b (Instruction.load_half sign) (with_risen_pc b))
   unfolding rows
   half_lane sign k j l c op low v p q up raise this o jk h i h1 h2 h3 plainly =
       record {
@@ -538,7 +541,7 @@ module _ (deny : Refusals) (lines : ℕ) (b : Book) (dt : ℕ) (fit : Fit b) (la
       (sign : Bool) (j : ℕ) (o : opcode g.ir ≡ j) (i : bit 28 g.ir ≡ not sign)
       (h1 : row_at (256 + j * 4) ≡ addressing Half 389)
       (h3 : row_at (60 + one_if (not sign)) ≡ final x.Ad y.C16 (down sign))
-      → Reaches deny lines b dt 16 None 5 (effect_of deny b (Instruction.load_half sign) (pc_risen b))
+      → Reaches deny lines b dt 16 None 5 (effect_of deny b (Instruction.load_half sign) (with_risen_pc b))
   unfolding rows
   half_any sign j o i h1 h3 =
       let p0 : b0 < 256 = fit.bytes from in
@@ -557,11 +560,11 @@ module _ (deny : Refusals) (lines : ℕ) (b : Book) (dt : ℕ) (fit : Fit b) (la
       (λ q. halved (from + 2) (from + 3) (high_at at q h) (high_next at q h)) o refl (turn 1 h) i h1 refl h3 refl)
 
   pub loads_half_signed : (o : opcode g.ir ≡ 33)
-      → Reaches deny lines b dt 16 None 5 (effect_of deny b (Instruction.load_half true) (pc_risen b))
+      → Reaches deny lines b dt 16 None 5 (effect_of deny b (Instruction.load_half true) (with_risen_pc b))
   unfolding rows
   loads_half_signed o = half_any true 33 o (bit_33 g.ir o) refl refl
 
   pub loads_half_plain : (o : opcode g.ir ≡ 37)
-      → Reaches deny lines b dt 16 None 5 (effect_of deny b (Instruction.load_half false) (pc_risen b))
+      → Reaches deny lines b dt 16 None 5 (effect_of deny b (Instruction.load_half false) (with_risen_pc b))
   unfolding rows
   loads_half_plain o = half_any false 37 o (bit_37 g.ir o) refl refl

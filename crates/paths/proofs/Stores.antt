@@ -6,7 +6,7 @@ use Rattle.bus.specs.Request.{first_address, byte_count, word_of}
 use Rattle.bus.specs.declared.request.Answer.TheVariants.{BusError, Done}
 use Rattle.bus.specs.declared.request.Width.{Width}
 use Rattle.bus.specs.declared.request.Width.TheVariants.{Word, Half, Byte}
-use Rattle.machine.specs.Address.{barred, misplaced}
+use Rattle.machine.specs.Address.{is_barred, is_misplaced}
 use Rattle.machine.specs.Registers.{Regs, reg, with_ad, with_ir}
 use Rattle.machine.specs.Word.{opcode, rt}
 use Rattle.machine.specs.Words.{WordsStayWords}
@@ -24,7 +24,7 @@ use Rattle.rows.specs.declared.row.Sequencing.TheVariants as s
 use Rattle.rows.specs.declared.row.Transfer.{Transfer}
 use Rattle.rows.specs.declared.row.Transfer.TheVariants as m
 use Rattle.microprogram.specs.Cycle.{State, fault_if, row_output, state_after}
-use Rattle.book.specs.Book.{Book, Effect, Refusals, address, after_fetch, effect_of, pc_risen, with_fault}
+use Rattle.book.specs.Book.{Book, Effect, Refusals, address, after_fetch, effect_of, with_risen_pc, with_fault}
 use Rattle.book.specs.Fit.{Fit}
 use Rattle.book.specs.Instruction.{Instruction}
 use Rattle.paths.specs.Instant.{World}
@@ -42,9 +42,9 @@ checking Half = e.Wh
 checking Byte = e.Wb
 
 abbrev bad : Width → ℕ → ℕ → Bool
-bad Word sr at = misplaced 4 sr at
-bad Half sr at = misplaced 2 sr at
-bad Byte sr at = barred sr at
+bad Word sr at = is_misplaced 4 sr at
+bad Half sr at = is_misplaced 2 sr at
+bad Byte sr at = is_barred sr at
 
 abbrev store_of : Width → Instruction
 store_of Word = Instruction.store_word
@@ -67,7 +67,7 @@ writes deny b w g =
       ledger = b.ledger;
       bytes = stored_byte (first_address w g.ad) (byte_count w) (reg g (rt g.ir)) b.bytes;
       fault = None;
-      mask =
+      event_sr =
           g.sr;
     })
 
@@ -103,8 +103,8 @@ fetch_by : (lines : ℕ) (c : State) (bytes : ℕ → ℕ) (word : ℕ) (u : Boo
       bytes = bytes;
     })
     (ending lines
-    (cond u (record { regs = c.regs; ledger = c.ledger; bytes = bytes; fault = Some f.Ibe; mask = c.regs.sr })
-    (record { regs = with_ir word c.regs; ledger = c.ledger; bytes = bytes; fault = None; mask = c.regs.sr }))
+    (cond u (record { regs = c.regs; ledger = c.ledger; bytes = bytes; fault = Some f.Ibe; event_sr = c.regs.sr })
+    (record { regs = with_ir word c.regs; ledger = c.ledger; bytes = bytes; fault = None; event_sr = c.regs.sr }))
     c.dt)
 fetch_by lines c bytes word true h = rw h
 fetch_by lines c bytes word false h = rw h
@@ -131,7 +131,7 @@ fetch_after : (deny : Refusals) (lines : ℕ) (b : Book) (g : Regs) (dt : ℕ) (
     ≡ ending lines
     (after_fetch deny
     (cond v (with_fault b f.Dbe g)
-    (record { regs = g; ledger = b.ledger; bytes = new; fault = None; mask = g.sr }))) dt
+    (record { regs = g; ledger = b.ledger; bytes = new; fault = None; event_sr = g.sr }))) dt
 fetch_after deny lines b g dt new true = refl
 fetch_after deny lines b g dt new false =
     fetch_by lines (amid b g dt None 15).state new (word_at new (word_of g.pc)) (deny.unreadable (word_of g.pc)) refl
@@ -184,11 +184,11 @@ module _ (deny : Refusals) (lines : ℕ) (b : Book) (dt : ℕ) (fit : Fit b) (la
   g = b.regs
 
   abbrev at : ℕ
-  at = address (pc_risen b)
+  at = address (with_risen_pc b)
 
   -- the registers with the address in AD
   abbrev aimed : Regs
-  aimed = with_ad at (pc_risen b)
+  aimed = with_ad at (with_risen_pc b)
 
   abbrev stores_rows : Width → ℕ → Rows
   stores_rows w k = (16, init) ∷ (k, addressing w (k + 1)) ∷ (k + 1, writing w) ∷ (15, fetch) ∷ []
@@ -202,19 +202,19 @@ module _ (deny : Refusals) (lines : ℕ) (b : Book) (dt : ℕ) (fit : Fit b) (la
 
   stores_walk : (w : Width) (k : ℕ)
       → walk deny lines (stores_rows w k) (world_at b dt 16 None)
-      ≡ ending lines (after_fetch deny (effect_of deny b (store_of w) (pc_risen b))) dt
+      ≡ ending lines (after_fetch deny (effect_of deny b (store_of w) (with_risen_pc b))) dt
   stores_walk Word k =
       ap (walk deny lines ((k + 1, writing Word) ∷ (15, fetch) ∷ [])) (stage Word k)
-      ∙ written_out deny lines b aimed dt Word (k + 1) (rt_word b fit) (misplaced 4 g.sr at)
+      ∙ written_out deny lines b aimed dt Word (k + 1) (rt_word b fit) (is_misplaced 4 g.sr at)
   stores_walk Half k =
       ap (walk deny lines ((k + 1, writing Half) ∷ (15, fetch) ∷ [])) (stage Half k)
-      ∙ written_out deny lines b aimed dt Half (k + 1) (rt_word b fit) (misplaced 2 g.sr at)
+      ∙ written_out deny lines b aimed dt Half (k + 1) (rt_word b fit) (is_misplaced 2 g.sr at)
   stores_walk Byte k =
       ap (walk deny lines ((k + 1, writing Byte) ∷ (15, fetch) ∷ [])) (stage Byte k)
-      ∙ written_out deny lines b aimed dt Byte (k + 1) (rt_word b fit) (barred g.sr at)
+      ∙ written_out deny lines b aimed dt Byte (k + 1) (rt_word b fit) (is_barred g.sr at)
 
   pub stores_byte : (o : opcode g.ir ≡ 40)
-      → Reaches deny lines b dt 16 None 4 (effect_of deny b Instruction.store_byte (pc_risen b))
+      → Reaches deny lines b dt 16 None 4 (effect_of deny b Instruction.store_byte (with_risen_pc b))
   unfolding rows
   stores_byte o =
       record {
@@ -227,7 +227,7 @@ module _ (deny : Refusals) (lines : ℕ) (b : Book) (dt : ℕ) (fit : Fit b) (la
       }
 
   pub stores_half : (o : opcode g.ir ≡ 41)
-      → Reaches deny lines b dt 16 None 4 (effect_of deny b Instruction.store_half (pc_risen b))
+      → Reaches deny lines b dt 16 None 4 (effect_of deny b Instruction.store_half (with_risen_pc b))
   unfolding rows
   stores_half o =
       record {
@@ -240,7 +240,7 @@ module _ (deny : Refusals) (lines : ℕ) (b : Book) (dt : ℕ) (fit : Fit b) (la
       }
 
   pub stores_word : (o : opcode g.ir ≡ 43)
-      → Reaches deny lines b dt 16 None 4 (effect_of deny b Instruction.store_word (pc_risen b))
+      → Reaches deny lines b dt 16 None 4 (effect_of deny b Instruction.store_word (with_risen_pc b))
   unfolding rows
   stores_word o =
       record {

@@ -19,7 +19,7 @@ use Rattle.rows.specs.declared.row.OperandY.TheVariants as y
 use Rattle.rows.specs.declared.row.Row.{Row}
 use Rattle.rows.specs.declared.row.Sequencing.TheVariants as s
 use Rattle.rows.specs.declared.row.Transfer.TheVariants as m
-use Rattle.book.specs.Book.{Book, Refusals, after_fetch, effect_of, pc_risen}
+use Rattle.book.specs.Book.{Book, Refusals, after_fetch, effect_of, with_risen_pc}
 use Rattle.book.specs.Fit.{Fit}
 use Rattle.book.specs.Instruction.{Instruction}
 use Rattle.paths.specs.Instant.{World}
@@ -64,18 +64,19 @@ module _ (deny : Refusals) (lines : ℕ) (b : Book) (dt : ℕ) (fit : Fit b) (la
 
   taken : (f : ℕ)
       → walk deny lines (first_rows f) start
-      ≡ amid b (with_ad (reg g (rt g.ir)) (pc_risen b)) dt None (512 + f * 4 + 1)
+      ≡ amid b (with_ad (reg g (rt g.ir)) (with_risen_pc b)) dt None (512 + f * 4 + 1)
   taken f = rw (rt_word b fit)
 
   unflagged : (op : Operation) (f : ℕ) → overflow op (reg g (rs g.ir)) (reg g (rt g.ir)) ≡ false
       → walk deny lines ((512 + f * 4 + 1, row x.Rs y.Ad op r.Ad m.Nop e.Ovf s.Next (512 + f * 4 + 2)) ∷ [])
-      (amid b (with_ad (reg g (rt g.ir)) (pc_risen b)) dt None (512 + f * 4 + 1))
-      ≡ amid b (with_ad (result_of op (reg g (rs g.ir)) (reg g (rt g.ir))) (pc_risen b)) dt None (512 + f * 4 + 2)
+      (amid b (with_ad (reg g (rt g.ir)) (with_risen_pc b)) dt None (512 + f * 4 + 1))
+      ≡ amid b (with_ad (result_of op (reg g (rs g.ir)) (reg g (rt g.ir))) (with_risen_pc b)) dt None (512 + f * 4 + 2)
   unflagged op f v = rw v
 
   checked : (op : Operation) (f : ℕ) → result_of op (reg g (rs g.ir)) (reg g (rt g.ir)) < 2 ^ 32
-      → walk deny lines (last_rows op f) (amid b (with_ad (reg g (rt g.ir)) (pc_risen b)) dt None (512 + f * 4 + 1))
-      ≡ ending lines (after_fetch deny (effect_of deny b (Instruction.compute_checked op) (pc_risen b))) dt
+      → walk deny lines (last_rows op f)
+      (amid b (with_ad (reg g (rt g.ir)) (with_risen_pc b)) dt None (512 + f * 4 + 1))
+      ≡ ending lines (after_fetch deny (effect_of deny b (Instruction.compute_checked op) (with_risen_pc b))) dt
   checked op f small =
       split (overflow op (reg g (rs g.ir)) (reg g (rt g.ir)))
       (λ v. rw v)
@@ -85,7 +86,7 @@ module _ (deny : Refusals) (lines : ℕ) (b : Book) (dt : ℕ) (fit : Fit b) (la
 
   checked_walk : (op : Operation) (f : ℕ) → result_of op (reg g (rs g.ir)) (reg g (rt g.ir)) < 2 ^ 32
       → walk deny lines (last_rows op f) (walk deny lines (first_rows f) start)
-      ≡ ending lines (after_fetch deny (effect_of deny b (Instruction.compute_checked op) (pc_risen b))) dt
+      ≡ ending lines (after_fetch deny (effect_of deny b (Instruction.compute_checked op) (with_risen_pc b))) dt
   checked_walk op f small = ap (walk deny lines (last_rows op f)) (taken f) ∙ checked op f small
 
   abbrev shifts_fixed_rows : (op : Operation) (f : ℕ) → Rows
@@ -93,13 +94,13 @@ module _ (deny : Refusals) (lines : ℕ) (b : Book) (dt : ℕ) (fit : Fit b) (la
 
   shifts_fixed_walk : (op : Operation) (f : ℕ)
       → walk deny lines (shifts_fixed_rows op f) (world_at b dt 16 None)
-      ≡ ending lines (after_fetch deny (effect_of deny b (Instruction.shift_fixed op) (pc_risen b))) dt
+      ≡ ending lines (after_fetch deny (effect_of deny b (Instruction.shift_fixed op) (with_risen_pc b))) dt
   shifts_fixed_walk op f = split unfetched (λ q. simp (q)) (λ q. simp (q))
 
   pub shifts_fixed :
       (op : Operation) (f : ℕ) (o : opcode g.ir ≡ 0) (fe : function g.ir ≡ f)
       (h1 : row_at (512 + f * 4) ≡ row x.Rt y.Ish op r.Rd m.If e.Ibe s.Rie 16)
-      → Reaches deny lines b dt 16 None 3 (effect_of deny b (Instruction.shift_fixed op) (pc_risen b))
+      → Reaches deny lines b dt 16 None 3 (effect_of deny b (Instruction.shift_fixed op) (with_risen_pc b))
   unfolding rows
   shifts_fixed op f o fe h1 =
       record {
@@ -121,14 +122,14 @@ module _ (deny : Refusals) (lines : ℕ) (b : Book) (dt : ℕ) (fit : Fit b) (la
 
   shifts_by_walk : (op : Operation) (f : ℕ)
       → walk deny lines (shifts_by_rows op f) (world_at b dt 16 None)
-      ≡ ending lines (after_fetch deny (effect_of deny b (Instruction.shift_by op) (pc_risen b))) dt
+      ≡ ending lines (after_fetch deny (effect_of deny b (Instruction.shift_by op) (with_risen_pc b))) dt
   shifts_by_walk op f = split unfetched (λ q. simp (q, rs_word b fit)) (λ q. simp (q, rs_word b fit))
 
   pub shifts_by :
       (op : Operation) (f : ℕ) (o : opcode g.ir ≡ 0) (fe : function g.ir ≡ f)
       (h1 : row_at (512 + f * 4) ≡ row x.Rs y.C0 Sum r.Ad m.Nop e.Nop s.Next (512 + f * 4 + 1))
       (h2 : row_at (512 + f * 4 + 1) ≡ row x.Rt y.Ad op r.Rd m.If e.Ibe s.Rie 16)
-      → Reaches deny lines b dt 16 None 4 (effect_of deny b (Instruction.shift_by op) (pc_risen b))
+      → Reaches deny lines b dt 16 None 4 (effect_of deny b (Instruction.shift_by op) (with_risen_pc b))
   unfolding rows
   shifts_by op f o fe h1 h2 =
       record {
@@ -150,14 +151,14 @@ module _ (deny : Refusals) (lines : ℕ) (b : Book) (dt : ℕ) (fit : Fit b) (la
 
   computes_walk : (op : Operation) (f : ℕ)
       → walk deny lines (computes_rows op f) (world_at b dt 16 None)
-      ≡ ending lines (after_fetch deny (effect_of deny b (Instruction.compute op) (pc_risen b))) dt
+      ≡ ending lines (after_fetch deny (effect_of deny b (Instruction.compute op) (with_risen_pc b))) dt
   computes_walk op f = split unfetched (λ q. simp (q, rt_word b fit)) (λ q. simp (q, rt_word b fit))
 
   pub computes :
       (op : Operation) (f : ℕ) (o : opcode g.ir ≡ 0) (fe : function g.ir ≡ f)
       (h1 : row_at (512 + f * 4) ≡ row x.Rt y.C0 Sum r.Ad m.Nop e.Nop s.Next (512 + f * 4 + 1))
       (h2 : row_at (512 + f * 4 + 1) ≡ row x.Rs y.Ad op r.Rd m.If e.Ibe s.Rie 16)
-      → Reaches deny lines b dt 16 None 4 (effect_of deny b (Instruction.compute op) (pc_risen b))
+      → Reaches deny lines b dt 16 None 4 (effect_of deny b (Instruction.compute op) (with_risen_pc b))
   unfolding rows
   computes op f o fe h1 h2 =
       record {
@@ -181,7 +182,7 @@ module _ (deny : Refusals) (lines : ℕ) (b : Book) (dt : ℕ) (fit : Fit b) (la
 
   computes_checked_walk : (op : Operation) (f : ℕ) (small : result_of op (reg g (rs g.ir)) (reg g (rt g.ir)) < 2 ^ 32)
       → walk deny lines (computes_checked_rows op f small) (world_at b dt 16 None)
-      ≡ ending lines (after_fetch deny (effect_of deny b (Instruction.compute_checked op) (pc_risen b))) dt
+      ≡ ending lines (after_fetch deny (effect_of deny b (Instruction.compute_checked op) (with_risen_pc b))) dt
   computes_checked_walk op f small = checked_walk op f small
 
   pub computes_checked :
@@ -190,7 +191,7 @@ module _ (deny : Refusals) (lines : ℕ) (b : Book) (dt : ℕ) (fit : Fit b) (la
       (h2 : row_at (512 + f * 4 + 1) ≡ row x.Rs y.Ad op r.Ad m.Nop e.Ovf s.Next (512 + f * 4 + 2))
       (h3 : row_at (512 + f * 4 + 2) ≡ row x.C0 y.Ad Sum r.Rd m.If e.Ibe s.Rie 16)
       (small : result_of op (reg g (rs g.ir)) (reg g (rt g.ir)) < 2 ^ 32)
-      → Reaches deny lines b dt 16 None 5 (effect_of deny b (Instruction.compute_checked op) (pc_risen b))
+      → Reaches deny lines b dt 16 None 5 (effect_of deny b (Instruction.compute_checked op) (with_risen_pc b))
   unfolding rows
   computes_checked op f o fe h1 h2 h3 small =
       record {
@@ -214,7 +215,7 @@ module _ (deny : Refusals) (lines : ℕ) (b : Book) (dt : ℕ) (fit : Fit b) (la
 
   computes_pair_walk : (low : Operation) (high : Operation) (f : ℕ)
       → walk deny lines (computes_pair_rows low high f) (world_at b dt 16 None)
-      ≡ ending lines (after_fetch deny (effect_of deny b (Instruction.compute_pair low high) (pc_risen b))) dt
+      ≡ ending lines (after_fetch deny (effect_of deny b (Instruction.compute_pair low high) (with_risen_pc b))) dt
   computes_pair_walk low high f = split unfetched (λ q. simp (q, rt_word b fit)) (λ q. simp (q, rt_word b fit))
 
   pub computes_pair :
@@ -222,7 +223,7 @@ module _ (deny : Refusals) (lines : ℕ) (b : Book) (dt : ℕ) (fit : Fit b) (la
       (h1 : row_at (512 + f * 4) ≡ row x.Rt y.C0 Sum r.Ad m.Nop e.Nop s.Next (512 + f * 4 + 1))
       (h2 : row_at (512 + f * 4 + 1) ≡ row x.Rs y.Ad low r.Lo m.Nop e.Nop s.Next (512 + f * 4 + 2))
       (h3 : row_at (512 + f * 4 + 2) ≡ row x.Rs y.Ad high r.Hi m.If e.Ibe s.Rie 16)
-      → Reaches deny lines b dt 16 None 5 (effect_of deny b (Instruction.compute_pair low high) (pc_risen b))
+      → Reaches deny lines b dt 16 None 5 (effect_of deny b (Instruction.compute_pair low high) (with_risen_pc b))
   unfolding rows
   computes_pair low high f o fe h1 h2 h3 =
       record {
@@ -240,12 +241,12 @@ module _ (deny : Refusals) (lines : ℕ) (b : Book) (dt : ℕ) (fit : Fit b) (la
 
   moves_from_hi_walk :
       walk deny lines (moves_from_hi_rows) (world_at b dt 16 None)
-      ≡ ending lines (after_fetch deny (effect_of deny b Instruction.move_from_hi (pc_risen b))) dt
+      ≡ ending lines (after_fetch deny (effect_of deny b Instruction.move_from_hi (with_risen_pc b))) dt
   moves_from_hi_walk =
       split unfetched (λ q. simp (q, plus_nothing g.hi fit.words.hi)) (λ q. simp (q, plus_nothing g.hi fit.words.hi))
 
   pub moves_from_hi : (o : opcode g.ir ≡ 0) (fe : function g.ir ≡ 16)
-      → Reaches deny lines b dt 16 None 3 (effect_of deny b Instruction.move_from_hi (pc_risen b))
+      → Reaches deny lines b dt 16 None 3 (effect_of deny b Instruction.move_from_hi (with_risen_pc b))
   unfolding rows
   moves_from_hi o fe =
       record {
@@ -262,11 +263,11 @@ module _ (deny : Refusals) (lines : ℕ) (b : Book) (dt : ℕ) (fit : Fit b) (la
 
   moves_to_hi_walk :
       walk deny lines (moves_to_hi_rows) (world_at b dt 16 None)
-      ≡ ending lines (after_fetch deny (effect_of deny b Instruction.move_to_hi (pc_risen b))) dt
+      ≡ ending lines (after_fetch deny (effect_of deny b Instruction.move_to_hi (with_risen_pc b))) dt
   moves_to_hi_walk = split unfetched (λ q. simp (q, rs_word b fit)) (λ q. simp (q, rs_word b fit))
 
   pub moves_to_hi : (o : opcode g.ir ≡ 0) (fe : function g.ir ≡ 17)
-      → Reaches deny lines b dt 16 None 3 (effect_of deny b Instruction.move_to_hi (pc_risen b))
+      → Reaches deny lines b dt 16 None 3 (effect_of deny b Instruction.move_to_hi (with_risen_pc b))
   unfolding rows
   moves_to_hi o fe =
       record {
@@ -283,12 +284,12 @@ module _ (deny : Refusals) (lines : ℕ) (b : Book) (dt : ℕ) (fit : Fit b) (la
 
   moves_from_lo_walk :
       walk deny lines (moves_from_lo_rows) (world_at b dt 16 None)
-      ≡ ending lines (after_fetch deny (effect_of deny b Instruction.move_from_lo (pc_risen b))) dt
+      ≡ ending lines (after_fetch deny (effect_of deny b Instruction.move_from_lo (with_risen_pc b))) dt
   moves_from_lo_walk =
       split unfetched (λ q. simp (q, plus_nothing g.lo fit.words.lo)) (λ q. simp (q, plus_nothing g.lo fit.words.lo))
 
   pub moves_from_lo : (o : opcode g.ir ≡ 0) (fe : function g.ir ≡ 18)
-      → Reaches deny lines b dt 16 None 3 (effect_of deny b Instruction.move_from_lo (pc_risen b))
+      → Reaches deny lines b dt 16 None 3 (effect_of deny b Instruction.move_from_lo (with_risen_pc b))
   unfolding rows
   moves_from_lo o fe =
       record {
@@ -305,11 +306,11 @@ module _ (deny : Refusals) (lines : ℕ) (b : Book) (dt : ℕ) (fit : Fit b) (la
 
   moves_to_lo_walk :
       walk deny lines (moves_to_lo_rows) (world_at b dt 16 None)
-      ≡ ending lines (after_fetch deny (effect_of deny b Instruction.move_to_lo (pc_risen b))) dt
+      ≡ ending lines (after_fetch deny (effect_of deny b Instruction.move_to_lo (with_risen_pc b))) dt
   moves_to_lo_walk = split unfetched (λ q. simp (q, rs_word b fit)) (λ q. simp (q, rs_word b fit))
 
   pub moves_to_lo : (o : opcode g.ir ≡ 0) (fe : function g.ir ≡ 19)
-      → Reaches deny lines b dt 16 None 3 (effect_of deny b Instruction.move_to_lo (pc_risen b))
+      → Reaches deny lines b dt 16 None 3 (effect_of deny b Instruction.move_to_lo (with_risen_pc b))
   unfolding rows
   moves_to_lo o fe =
       record {
@@ -331,20 +332,20 @@ module _ (deny : Refusals) (lines : ℕ) (b : Book) (dt : ℕ) (fit : Fit b) (la
 
   immediate_taken : (n : ℕ) (w : Row) → w ≡ row x.C0 y.I16 Sum r.Ad m.Nop e.Nop s.Next n
       → walk deny lines ((16, init) ∷ (288, row x.C0 y.I16 Sum r.Ad m.Nop e.Nop s.Next n) ∷ []) start
-      ≡ amid b (with_ad (signed_immediate g.ir) (pc_risen b)) dt None n
+      ≡ amid b (with_ad (signed_immediate g.ir) (with_risen_pc b)) dt None n
   immediate_taken n w h = rw extended_word
 
   immediate_unflagged : overflow Sum (reg g (rs g.ir)) (signed_immediate g.ir) ≡ false
       → walk deny lines ((289, row x.Rs y.Ad Sum r.Ad m.Nop e.Ovf s.Next 290) ∷ [])
-      (amid b (with_ad (signed_immediate g.ir) (pc_risen b)) dt None 289)
-      ≡ amid b (with_ad ((reg g (rs g.ir) + signed_immediate g.ir) % 2 ^ 32) (pc_risen b)) dt None 290
+      (amid b (with_ad (signed_immediate g.ir) (with_risen_pc b)) dt None 289)
+      ≡ amid b (with_ad ((reg g (rs g.ir) + signed_immediate g.ir) % 2 ^ 32) (with_risen_pc b)) dt None 290
   immediate_unflagged v = rw v
 
   immediate_added :
       walk deny lines
       ((289, row x.Rs y.Ad Sum r.Ad m.Nop e.Ovf s.Next 290) ∷ (290, row x.C0 y.Ad Sum r.Rt m.If e.Ibe s.Rie 16)
-      ∷ []) (amid b (with_ad (signed_immediate g.ir) (pc_risen b)) dt None 289)
-      ≡ ending lines (after_fetch deny (effect_of deny b Instruction.add_immediate (pc_risen b))) dt
+      ∷ []) (amid b (with_ad (signed_immediate g.ir) (with_risen_pc b)) dt None 289)
+      ≡ ending lines (after_fetch deny (effect_of deny b Instruction.add_immediate (with_risen_pc b))) dt
   immediate_added =
       split (overflow Sum (reg g (rs g.ir)) (signed_immediate g.ir))
       (λ v. rw v)
@@ -361,7 +362,7 @@ module _ (deny : Refusals) (lines : ℕ) (b : Book) (dt : ℕ) (fit : Fit b) (la
 
   adds_immediate_walk :
       walk deny lines (adds_immediate_rows) (world_at b dt 16 None)
-      ≡ ending lines (after_fetch deny (effect_of deny b Instruction.add_immediate (pc_risen b))) dt
+      ≡ ending lines (after_fetch deny (effect_of deny b Instruction.add_immediate (with_risen_pc b))) dt
   adds_immediate_walk =
       ap (walk deny lines
       ((289, row x.Rs y.Ad Sum r.Ad m.Nop e.Ovf s.Next 290) ∷ (290, row x.C0 y.Ad Sum r.Rt m.If e.Ibe s.Rie 16)
@@ -369,7 +370,7 @@ module _ (deny : Refusals) (lines : ℕ) (b : Book) (dt : ℕ) (fit : Fit b) (la
       ∙ immediate_added
 
   pub adds_immediate : (o : opcode g.ir ≡ 8)
-      → Reaches deny lines b dt 16 None 4 (effect_of deny b Instruction.add_immediate (pc_risen b))
+      → Reaches deny lines b dt 16 None 4 (effect_of deny b Instruction.add_immediate (with_risen_pc b))
   unfolding rows
   adds_immediate o =
       record {
@@ -390,14 +391,14 @@ module _ (deny : Refusals) (lines : ℕ) (b : Book) (dt : ℕ) (fit : Fit b) (la
 
   computes_signed_walk : (op : Operation) (k : ℕ)
       → walk deny lines (computes_signed_rows op k) (world_at b dt 16 None)
-      ≡ ending lines (after_fetch deny (effect_of deny b (Instruction.compute_signed op) (pc_risen b))) dt
+      ≡ ending lines (after_fetch deny (effect_of deny b (Instruction.compute_signed op) (with_risen_pc b))) dt
   computes_signed_walk op k = split unfetched (λ q. simp (q, extended_word)) (λ q. simp (q, extended_word))
 
   pub computes_signed :
       (op : Operation) (k : ℕ) (o : opcode g.ir ≡ k)
       (h1 : row_at (256 + k * 4) ≡ row x.C0 y.I16 Sum r.Ad m.Nop e.Nop s.Next (256 + k * 4 + 1))
       (h2 : row_at (256 + k * 4 + 1) ≡ row x.Rs y.Ad op r.Rt m.If e.Ibe s.Rie 16)
-      → Reaches deny lines b dt 16 None 3 (effect_of deny b (Instruction.compute_signed op) (pc_risen b))
+      → Reaches deny lines b dt 16 None 3 (effect_of deny b (Instruction.compute_signed op) (with_risen_pc b))
   unfolding rows
   computes_signed op k o h1 h2 =
       record {
@@ -418,7 +419,7 @@ module _ (deny : Refusals) (lines : ℕ) (b : Book) (dt : ℕ) (fit : Fit b) (la
 
   computes_plain_walk : (op : Operation) (k : ℕ)
       → walk deny lines (computes_plain_rows op k) (world_at b dt 16 None)
-      ≡ ending lines (after_fetch deny (effect_of deny b (Instruction.compute_plain op) (pc_risen b))) dt
+      ≡ ending lines (after_fetch deny (effect_of deny b (Instruction.compute_plain op) (with_risen_pc b))) dt
   computes_plain_walk op k =
       split unfetched (λ q. simp (q, plain_immediate g.ir)) (λ q. simp (q, plain_immediate g.ir))
 
@@ -426,7 +427,7 @@ module _ (deny : Refusals) (lines : ℕ) (b : Book) (dt : ℕ) (fit : Fit b) (la
       (op : Operation) (k : ℕ) (o : opcode g.ir ≡ k)
       (h1 : row_at (256 + k * 4) ≡ row x.Ch y.I16 And r.Ad m.Nop e.Nop s.Next (256 + k * 4 + 1))
       (h2 : row_at (256 + k * 4 + 1) ≡ row x.Rs y.Ad op r.Rt m.If e.Ibe s.Rie 16)
-      → Reaches deny lines b dt 16 None 3 (effect_of deny b (Instruction.compute_plain op) (pc_risen b))
+      → Reaches deny lines b dt 16 None 3 (effect_of deny b (Instruction.compute_plain op) (with_risen_pc b))
   unfolding rows
   computes_plain op k o h1 h2 =
       record {
@@ -447,13 +448,13 @@ module _ (deny : Refusals) (lines : ℕ) (b : Book) (dt : ℕ) (fit : Fit b) (la
 
   loads_upper_walk :
       walk deny lines (loads_upper_rows) (world_at b dt 16 None)
-      ≡ ending lines (after_fetch deny (effect_of deny b Instruction.load_upper (pc_risen b))) dt
+      ≡ ending lines (after_fetch deny (effect_of deny b Instruction.load_upper (with_risen_pc b))) dt
   loads_upper_walk =
       split unfetched (λ q. simp (q, plain_immediate g.ir, upper g.ir))
       (λ q. simp (q, plain_immediate g.ir, upper g.ir))
 
   pub loads_upper : (o : opcode g.ir ≡ 15)
-      → Reaches deny lines b dt 16 None 3 (effect_of deny b Instruction.load_upper (pc_risen b))
+      → Reaches deny lines b dt 16 None 3 (effect_of deny b Instruction.load_upper (with_risen_pc b))
   unfolding rows
   loads_upper o =
       record {

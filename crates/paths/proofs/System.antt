@@ -2,7 +2,7 @@
 use Rattle.std.proofs.Common.{◌≡◌, ℕ, ◌+◌, ◌*◌, ◌%◌, ◌^◌, Bool, true, false, cond, eqb, List, [], ◌∷◌, Some, None, sym}
 use Rattle.std.proofs.Common.{refl, ap, ◌∙◌}
 use Rattle.bus.specs.Request.{word_of}
-use Rattle.machine.specs.Address.{user_mode}
+use Rattle.machine.specs.Address.{is_user_mode}
 use Rattle.machine.specs.Interrupt.{cr_with_lines, sr_on_return}
 use Rattle.machine.specs.Registers.{Regs, reg, with_bar, with_cr, with_epc, with_ir, with_register, with_sr}
 use Rattle.machine.specs.Word.{bit, function, opcode, rt, system_number}
@@ -18,7 +18,8 @@ use Rattle.rows.specs.declared.row.Row.{Row}
 use Rattle.rows.specs.declared.row.Sequencing.TheVariants as s
 use Rattle.rows.specs.declared.row.Transfer.TheVariants as m
 use Rattle.microprogram.specs.Cycle.{fault_if, flag_after, may_write}
-use Rattle.book.specs.Book.{Book, Effect, Refusals, after_fetch, effect_of, from_system, pc_risen, to_sr, to_system}
+use Rattle.book.specs.Book.{Book, Effect, Refusals, after_fetch, effect_of, from_system, with_risen_pc, to_sr}
+use Rattle.book.specs.Book.{to_system}
 use Rattle.book.specs.Book.{unless_user_mode, with_fault, without_fault}
 use Rattle.book.specs.Fit.{Fit}
 use Rattle.book.specs.Instruction.{Instruction, table_entry}
@@ -66,11 +67,11 @@ module _ (deny : Refusals) (lines : ℕ) (b : Book) (dt : ℕ) (fit : Fit b) (la
 
   calls_system_walk :
       walk deny lines calls_system_rows (world_at b dt 16 None)
-      ≡ ending lines (after_fetch deny (effect_of deny b Instruction.system_call (pc_risen b))) dt
+      ≡ ending lines (after_fetch deny (effect_of deny b Instruction.system_call (with_risen_pc b))) dt
   calls_system_walk = refl
 
   pub calls_system : (o : opcode g.ir ≡ 0) (fe : function g.ir ≡ 12)
-      → Reaches deny lines b dt 16 None 4 (effect_of deny b Instruction.system_call (pc_risen b))
+      → Reaches deny lines b dt 16 None 4 (effect_of deny b Instruction.system_call (with_risen_pc b))
   unfolding rows
   calls_system o fe =
       record {
@@ -87,11 +88,11 @@ module _ (deny : Refusals) (lines : ℕ) (b : Book) (dt : ℕ) (fit : Fit b) (la
 
   breaks_walk :
       walk deny lines breaks_rows (world_at b dt 16 None)
-      ≡ ending lines (after_fetch deny (effect_of deny b Instruction.breakpoint (pc_risen b))) dt
+      ≡ ending lines (after_fetch deny (effect_of deny b Instruction.breakpoint (with_risen_pc b))) dt
   breaks_walk = refl
 
   pub breaks : (o : opcode g.ir ≡ 0) (fe : function g.ir ≡ 13)
-      → Reaches deny lines b dt 16 None 4 (effect_of deny b Instruction.breakpoint (pc_risen b))
+      → Reaches deny lines b dt 16 None 4 (effect_of deny b Instruction.breakpoint (with_risen_pc b))
   unfolding rows
   breaks o fe =
       record {
@@ -108,12 +109,12 @@ module _ (deny : Refusals) (lines : ℕ) (b : Book) (dt : ℕ) (fit : Fit b) (la
 
   unassigned_function_walk : (f : ℕ)
       → walk deny lines (unassigned_function_rows f) (world_at b dt 16 None)
-      ≡ ending lines (after_fetch deny (effect_of deny b Instruction.unassigned_function (pc_risen b))) dt
+      ≡ ending lines (after_fetch deny (effect_of deny b Instruction.unassigned_function (with_risen_pc b))) dt
   unassigned_function_walk f = refl
 
   pub unassigned_function_lem :
       (f : ℕ) (o : opcode g.ir ≡ 0) (fe : function g.ir ≡ f) (h1 : row_at (512 + f * 4) ≡ illegal)
-      → Reaches deny lines b dt 16 None 4 (effect_of deny b Instruction.unassigned_function (pc_risen b))
+      → Reaches deny lines b dt 16 None 4 (effect_of deny b Instruction.unassigned_function (with_risen_pc b))
   unfolding rows
   unassigned_function_lem f o fe h1 =
       record {
@@ -130,11 +131,11 @@ module _ (deny : Refusals) (lines : ℕ) (b : Book) (dt : ℕ) (fit : Fit b) (la
 
   unassigned_opcode_walk : (k : ℕ)
       → walk deny lines (unassigned_opcode_rows k) (world_at b dt 16 None)
-      ≡ ending lines (after_fetch deny (effect_of deny b Instruction.unassigned_opcode (pc_risen b))) dt
+      ≡ ending lines (after_fetch deny (effect_of deny b Instruction.unassigned_opcode (with_risen_pc b))) dt
   unassigned_opcode_walk k = refl
 
   pub unassigned_opcode_lem : (k : ℕ) (o : opcode g.ir ≡ k) (h1 : row_at (256 + k * 4) ≡ illegal)
-      → Reaches deny lines b dt 16 None 3 (effect_of deny b Instruction.unassigned_opcode (pc_risen b))
+      → Reaches deny lines b dt 16 None 3 (effect_of deny b Instruction.unassigned_opcode (with_risen_pc b))
   unfolding rows
   unassigned_opcode_lem k o h1 =
       record {
@@ -156,7 +157,7 @@ module _ (deny : Refusals) (lines : ℕ) (b : Book) (dt : ℕ) (fit : Fit b) (la
         state =
             record {
               regs =
-                  with_ir g.ir (cond (may_write r.Rfe e.Cpu None (fault_if u f.Cpu)) h (pc_risen b));
+                  with_ir g.ir (cond (may_write r.Rfe e.Cpu None (fault_if u f.Cpu)) h (with_risen_pc b));
               dt = dt;
               flag = flag_after e.Cpu None (fault_if u f.Cpu);
               row = n;
@@ -167,20 +168,21 @@ module _ (deny : Refusals) (lines : ℕ) (b : Book) (dt : ℕ) (fit : Fit b) (la
       }
 
   returns_mode : (u : Bool)
-      → walk deny lines ((15, fetch) ∷ []) (mode_world (with_sr (sr_on_return g.sr) (pc_risen b)) 15 u)
+      → walk deny lines ((15, fetch) ∷ []) (mode_world (with_sr (sr_on_return g.sr) (with_risen_pc b)) 15 u)
       ≡ ending lines
       (after_fetch deny
-      (cond u (with_fault b f.Cpu (pc_risen b)) (without_fault b (with_sr (sr_on_return g.sr) (pc_risen b))))) dt
+      (cond u (with_fault b f.Cpu (with_risen_pc b))
+      (without_fault b (with_sr (sr_on_return g.sr) (with_risen_pc b))))) dt
   returns_mode true = refl
-  returns_mode false = fetching deny lines b (with_sr (sr_on_return g.sr) (pc_risen b)) dt 15
+  returns_mode false = fetching deny lines b (with_sr (sr_on_return g.sr) (with_risen_pc b)) dt 15
 
   returns_walk : (n : ℕ)
       → walk deny lines (returns_rows n) (world_at b dt 16 None)
-      ≡ ending lines (after_fetch deny (effect_of deny b Instruction.return_from_exception (pc_risen b))) dt
-  returns_walk n = returns_mode (user_mode g.sr)
+      ≡ ending lines (after_fetch deny (effect_of deny b Instruction.return_from_exception (with_risen_pc b))) dt
+  returns_walk n = returns_mode (is_user_mode g.sr)
 
   pub returns : (o : opcode g.ir ≡ 16) (p : bit 25 g.ir ≡ true)
-      → Reaches deny lines b dt 16 None 4 (effect_of deny b Instruction.return_from_exception (pc_risen b))
+      → Reaches deny lines b dt 16 None 4 (effect_of deny b Instruction.return_from_exception (with_risen_pc b))
   unfolding rows
   returns o p =
       split (bit 23 g.ir)
@@ -207,11 +209,12 @@ module _ (deny : Refusals) (lines : ℕ) (b : Book) (dt : ℕ) (fit : Fit b) (la
 
   -- a move in either mode, from what its last rows do in each
   moved_mode : (ps : Rows) (n : ℕ) (made' : Effect)
-      → walk deny lines ps (amid b (pc_risen b) dt None n) ≡ ending lines (after_fetch deny made') dt
-      → walk deny lines ps (amid b (pc_risen b) dt (Some f.Cpu) n) ≡ ending lines (with_fault b f.Cpu (pc_risen b)) dt
+      → walk deny lines ps (amid b (with_risen_pc b) dt None n) ≡ ending lines (after_fetch deny made') dt
+      → walk deny lines ps (amid b (with_risen_pc b) dt (Some f.Cpu) n)
+      ≡ ending lines (with_fault b f.Cpu (with_risen_pc b)) dt
       → (u : Bool)
-      → walk deny lines ps (mode_world (pc_risen b) n u)
-      ≡ ending lines (after_fetch deny (cond u (with_fault b f.Cpu (pc_risen b)) made')) dt
+      → walk deny lines ps (mode_world (with_risen_pc b) n u)
+      ≡ ending lines (after_fetch deny (cond u (with_fault b f.Cpu (with_risen_pc b)) made')) dt
   moved_mode ps n made' here there true = there
   moved_mode ps n made' here there false = here
 
@@ -226,22 +229,22 @@ module _ (deny : Refusals) (lines : ℕ) (b : Book) (dt : ℕ) (fit : Fit b) (la
       (16, init) ∷ (320, copro) ∷ (128, mfc0) ∷ (152, row x.Bar y.C0 Sum r.Rt m.If e.Ibe s.Rie 16) ∷ []
 
   moves_from_bar_last : (n : ℕ)
-      → walk deny lines ((152, row x.Bar y.C0 Sum r.Rt m.If e.Ibe s.Rie 16) ∷ []) (amid b (pc_risen b) dt None n)
-      ≡ ending lines (after_fetch deny (from_system b (pc_risen b) 8)) dt
+      → walk deny lines ((152, row x.Bar y.C0 Sum r.Rt m.If e.Ibe s.Rie 16) ∷ []) (amid b (with_risen_pc b) dt None n)
+      ≡ ending lines (after_fetch deny (from_system b (with_risen_pc b) 8)) dt
   moves_from_bar_last n =
       split unfetched (λ q. simp (q, plus_nothing g.bar fit.words.bar))
       (λ q. simp (q, plus_nothing g.bar fit.words.bar))
 
   moves_from_bar_walk :
       walk deny lines moves_from_bar_rows (world_at b dt 16 None)
-      ≡ ending lines (after_fetch deny (effect_of deny b (Instruction.move_from_system 8) (pc_risen b))) dt
+      ≡ ending lines (after_fetch deny (effect_of deny b (Instruction.move_from_system 8) (with_risen_pc b))) dt
   moves_from_bar_walk =
       moved_mode ((152, row x.Bar y.C0 Sum r.Rt m.If e.Ibe s.Rie 16) ∷ []) (144 + system_number g.ir)
-      (from_system b (pc_risen b) 8) (moves_from_bar_last (144 + system_number g.ir)) refl (user_mode g.sr)
+      (from_system b (with_risen_pc b) 8) (moves_from_bar_last (144 + system_number g.ir)) refl (is_user_mode g.sr)
 
   pub moves_from_bar :
       (o : opcode g.ir ≡ 16) (p : bit 25 g.ir ≡ false) (q : bit 23 g.ir ≡ false) (n : system_number g.ir ≡ 8)
-      → Reaches deny lines b dt 16 None 4 (effect_of deny b (Instruction.move_from_system 8) (pc_risen b))
+      → Reaches deny lines b dt 16 None 4 (effect_of deny b (Instruction.move_from_system 8) (with_risen_pc b))
   unfolding rows
   moves_from_bar o p q n =
       record {
@@ -262,21 +265,21 @@ module _ (deny : Refusals) (lines : ℕ) (b : Book) (dt : ℕ) (fit : Fit b) (la
   moves_from_sr_rows = (16, init) ∷ (320, copro) ∷ (128, mfc0) ∷ (156, row x.Sr y.C0 Sum r.Rt m.If e.Ibe s.Rie 16) ∷ []
 
   moves_from_sr_last : (n : ℕ)
-      → walk deny lines ((156, row x.Sr y.C0 Sum r.Rt m.If e.Ibe s.Rie 16) ∷ []) (amid b (pc_risen b) dt None n)
-      ≡ ending lines (after_fetch deny (from_system b (pc_risen b) 12)) dt
+      → walk deny lines ((156, row x.Sr y.C0 Sum r.Rt m.If e.Ibe s.Rie 16) ∷ []) (amid b (with_risen_pc b) dt None n)
+      ≡ ending lines (after_fetch deny (from_system b (with_risen_pc b) 12)) dt
   moves_from_sr_last n =
       split unfetched (λ q. simp (q, plus_nothing g.sr fit.words.sr)) (λ q. simp (q, plus_nothing g.sr fit.words.sr))
 
   moves_from_sr_walk :
       walk deny lines moves_from_sr_rows (world_at b dt 16 None)
-      ≡ ending lines (after_fetch deny (effect_of deny b (Instruction.move_from_system 12) (pc_risen b))) dt
+      ≡ ending lines (after_fetch deny (effect_of deny b (Instruction.move_from_system 12) (with_risen_pc b))) dt
   moves_from_sr_walk =
       moved_mode ((156, row x.Sr y.C0 Sum r.Rt m.If e.Ibe s.Rie 16) ∷ []) (144 + system_number g.ir)
-      (from_system b (pc_risen b) 12) (moves_from_sr_last (144 + system_number g.ir)) refl (user_mode g.sr)
+      (from_system b (with_risen_pc b) 12) (moves_from_sr_last (144 + system_number g.ir)) refl (is_user_mode g.sr)
 
   pub moves_from_sr :
       (o : opcode g.ir ≡ 16) (p : bit 25 g.ir ≡ false) (q : bit 23 g.ir ≡ false) (n : system_number g.ir ≡ 12)
-      → Reaches deny lines b dt 16 None 4 (effect_of deny b (Instruction.move_from_system 12) (pc_risen b))
+      → Reaches deny lines b dt 16 None 4 (effect_of deny b (Instruction.move_from_system 12) (with_risen_pc b))
   unfolding rows
   moves_from_sr o p q n =
       record {
@@ -297,22 +300,22 @@ module _ (deny : Refusals) (lines : ℕ) (b : Book) (dt : ℕ) (fit : Fit b) (la
   moves_from_cr_rows = (16, init) ∷ (320, copro) ∷ (128, mfc0) ∷ (157, row x.Cr y.C0 Sum r.Rt m.If e.Ibe s.Rie 16) ∷ []
 
   moves_from_cr_last : (n : ℕ)
-      → walk deny lines ((157, row x.Cr y.C0 Sum r.Rt m.If e.Ibe s.Rie 16) ∷ []) (amid b (pc_risen b) dt None n)
-      ≡ ending lines (after_fetch deny (from_system b (pc_risen b) 13)) dt
+      → walk deny lines ((157, row x.Cr y.C0 Sum r.Rt m.If e.Ibe s.Rie 16) ∷ []) (amid b (with_risen_pc b) dt None n)
+      ≡ ending lines (after_fetch deny (from_system b (with_risen_pc b) 13)) dt
   moves_from_cr_last n =
       split unfetched (λ q. simp (q, plus_nothing (cr_with_lines b.sampled g.cr) (law.cr b.sampled g.cr fit.words.cr)))
       (λ q. simp (q, plus_nothing (cr_with_lines b.sampled g.cr) (law.cr b.sampled g.cr fit.words.cr)))
 
   moves_from_cr_walk :
       walk deny lines moves_from_cr_rows (world_at b dt 16 None)
-      ≡ ending lines (after_fetch deny (effect_of deny b (Instruction.move_from_system 13) (pc_risen b))) dt
+      ≡ ending lines (after_fetch deny (effect_of deny b (Instruction.move_from_system 13) (with_risen_pc b))) dt
   moves_from_cr_walk =
       moved_mode ((157, row x.Cr y.C0 Sum r.Rt m.If e.Ibe s.Rie 16) ∷ []) (144 + system_number g.ir)
-      (from_system b (pc_risen b) 13) (moves_from_cr_last (144 + system_number g.ir)) refl (user_mode g.sr)
+      (from_system b (with_risen_pc b) 13) (moves_from_cr_last (144 + system_number g.ir)) refl (is_user_mode g.sr)
 
   pub moves_from_cr :
       (o : opcode g.ir ≡ 16) (p : bit 25 g.ir ≡ false) (q : bit 23 g.ir ≡ false) (n : system_number g.ir ≡ 13)
-      → Reaches deny lines b dt 16 None 4 (effect_of deny b (Instruction.move_from_system 13) (pc_risen b))
+      → Reaches deny lines b dt 16 None 4 (effect_of deny b (Instruction.move_from_system 13) (with_risen_pc b))
   unfolding rows
   moves_from_cr o p q n =
       record {
@@ -334,22 +337,22 @@ module _ (deny : Refusals) (lines : ℕ) (b : Book) (dt : ℕ) (fit : Fit b) (la
       (16, init) ∷ (320, copro) ∷ (128, mfc0) ∷ (158, row x.Epc y.C0 Sum r.Rt m.If e.Ibe s.Rie 16) ∷ []
 
   moves_from_epc_last : (n : ℕ)
-      → walk deny lines ((158, row x.Epc y.C0 Sum r.Rt m.If e.Ibe s.Rie 16) ∷ []) (amid b (pc_risen b) dt None n)
-      ≡ ending lines (after_fetch deny (from_system b (pc_risen b) 14)) dt
+      → walk deny lines ((158, row x.Epc y.C0 Sum r.Rt m.If e.Ibe s.Rie 16) ∷ []) (amid b (with_risen_pc b) dt None n)
+      ≡ ending lines (after_fetch deny (from_system b (with_risen_pc b) 14)) dt
   moves_from_epc_last n =
       split unfetched (λ q. simp (q, plus_nothing g.epc fit.words.epc))
       (λ q. simp (q, plus_nothing g.epc fit.words.epc))
 
   moves_from_epc_walk :
       walk deny lines moves_from_epc_rows (world_at b dt 16 None)
-      ≡ ending lines (after_fetch deny (effect_of deny b (Instruction.move_from_system 14) (pc_risen b))) dt
+      ≡ ending lines (after_fetch deny (effect_of deny b (Instruction.move_from_system 14) (with_risen_pc b))) dt
   moves_from_epc_walk =
       moved_mode ((158, row x.Epc y.C0 Sum r.Rt m.If e.Ibe s.Rie 16) ∷ []) (144 + system_number g.ir)
-      (from_system b (pc_risen b) 14) (moves_from_epc_last (144 + system_number g.ir)) refl (user_mode g.sr)
+      (from_system b (with_risen_pc b) 14) (moves_from_epc_last (144 + system_number g.ir)) refl (is_user_mode g.sr)
 
   pub moves_from_epc :
       (o : opcode g.ir ≡ 16) (p : bit 25 g.ir ≡ false) (q : bit 23 g.ir ≡ false) (n : system_number g.ir ≡ 14)
-      → Reaches deny lines b dt 16 None 4 (effect_of deny b (Instruction.move_from_system 14) (pc_risen b))
+      → Reaches deny lines b dt 16 None 4 (effect_of deny b (Instruction.move_from_system 14) (with_risen_pc b))
   unfolding rows
   moves_from_epc o p q n =
       record {
@@ -367,12 +370,13 @@ module _ (deny : Refusals) (lines : ℕ) (b : Book) (dt : ℕ) (fit : Fit b) (la
       }
 
   moves_from_none_made : (n : ℕ) → eqb n 8 ≡ false → eqb n 12 ≡ false → eqb n 13 ≡ false → eqb n 14 ≡ false
-      → from_system b (pc_risen b) n ≡ with_fault b f.Ri (pc_risen b)
+      → from_system b (with_risen_pc b) n ≡ with_fault b f.Ri (with_risen_pc b)
   moves_from_none_made n h8 h12 h13 h14 =
-      none_of n (without_fault b (with_register (rt g.ir) g.bar (pc_risen b)))
-      (without_fault b (with_register (rt g.ir) g.sr (pc_risen b)))
-      (without_fault b (with_register (rt g.ir) (cr_with_lines b.sampled g.cr) (pc_risen b)))
-      (without_fault b (with_register (rt g.ir) g.epc (pc_risen b))) (with_fault b f.Ri (pc_risen b)) h8 h12 h13
+      none_of n (without_fault b (with_register (rt g.ir) g.bar (with_risen_pc b)))
+      (without_fault b (with_register (rt g.ir) g.sr (with_risen_pc b)))
+      (without_fault b (with_register (rt g.ir) (cr_with_lines b.sampled g.cr) (with_risen_pc b)))
+      (without_fault b (with_register (rt g.ir) g.epc (with_risen_pc b)))
+      (with_fault b f.Ri (with_risen_pc b)) h8 h12 h13
       h14
 
   abbrev moves_from_none_rows : (n : ℕ) → Rows
@@ -380,18 +384,19 @@ module _ (deny : Refusals) (lines : ℕ) (b : Book) (dt : ℕ) (fit : Fit b) (la
 
   moves_from_none_walk : (n : ℕ) → eqb n 8 ≡ false → eqb n 12 ≡ false → eqb n 13 ≡ false → eqb n 14 ≡ false
       → walk deny lines (moves_from_none_rows n) (world_at b dt 16 None)
-      ≡ ending lines (after_fetch deny (effect_of deny b (Instruction.move_from_system n) (pc_risen b))) dt
+      ≡ ending lines (after_fetch deny (effect_of deny b (Instruction.move_from_system n) (with_risen_pc b))) dt
   moves_from_none_walk n h8 h12 h13 h14 =
-      moved_mode ((144 + n, illegal) ∷ (15, fetch) ∷ []) (144 + system_number g.ir) (with_fault b f.Ri (pc_risen b))
-      refl refl (user_mode g.sr)
-      ∙ ap (λ (v : Effect). ending lines (after_fetch deny (unless_user_mode b (pc_risen b) v)) dt)
+      moved_mode ((144 + n, illegal) ∷ (15, fetch) ∷ []) (144 + system_number g.ir)
+      (with_fault b f.Ri (with_risen_pc b))
+      refl refl (is_user_mode g.sr)
+      ∙ ap (λ (v : Effect). ending lines (after_fetch deny (unless_user_mode b (with_risen_pc b) v)) dt)
       (sym (moves_from_none_made n h8 h12 h13 h14))
 
   pub moves_from_none :
       (k : ℕ) (o : opcode g.ir ≡ 16) (p : bit 25 g.ir ≡ false) (q : bit 23 g.ir ≡ false) (n : system_number g.ir ≡ k)
       (h1 : row_at (144 + k) ≡ illegal) (h8 : eqb k 8 ≡ false) (h12 : eqb k 12 ≡ false) (h13 : eqb k 13 ≡ false)
       (h14 : eqb k 14 ≡ false)
-      → Reaches deny lines b dt 16 None 5 (effect_of deny b (Instruction.move_from_system k) (pc_risen b))
+      → Reaches deny lines b dt 16 None 5 (effect_of deny b (Instruction.move_from_system k) (with_risen_pc b))
   unfolding rows
   moves_from_none k o p q n h1 h8 h12 h13 h14 =
       record {
@@ -413,20 +418,20 @@ module _ (deny : Refusals) (lines : ℕ) (b : Book) (dt : ℕ) (fit : Fit b) (la
   moves_to_bar_rows = (16, init) ∷ (320, copro) ∷ (129, mtc0) ∷ (168, row x.Rt y.C0 Sum r.Bar m.If e.Ibe s.Rie 16) ∷ []
 
   moves_to_bar_last : (n : ℕ)
-      → walk deny lines ((168, row x.Rt y.C0 Sum r.Bar m.If e.Ibe s.Rie 16) ∷ []) (amid b (pc_risen b) dt None n)
-      ≡ ending lines (after_fetch deny (to_system b (pc_risen b) 8)) dt
+      → walk deny lines ((168, row x.Rt y.C0 Sum r.Bar m.If e.Ibe s.Rie 16) ∷ []) (amid b (with_risen_pc b) dt None n)
+      ≡ ending lines (after_fetch deny (to_system b (with_risen_pc b) 8)) dt
   moves_to_bar_last n = split unfetched (λ q. simp (q, rt_word b fit)) (λ q. simp (q, rt_word b fit))
 
   moves_to_bar_walk :
       walk deny lines moves_to_bar_rows (world_at b dt 16 None)
-      ≡ ending lines (after_fetch deny (effect_of deny b (Instruction.move_to_system 8) (pc_risen b))) dt
+      ≡ ending lines (after_fetch deny (effect_of deny b (Instruction.move_to_system 8) (with_risen_pc b))) dt
   moves_to_bar_walk =
       moved_mode ((168, row x.Rt y.C0 Sum r.Bar m.If e.Ibe s.Rie 16) ∷ []) (160 + system_number g.ir)
-      (to_system b (pc_risen b) 8) (moves_to_bar_last (160 + system_number g.ir)) refl (user_mode g.sr)
+      (to_system b (with_risen_pc b) 8) (moves_to_bar_last (160 + system_number g.ir)) refl (is_user_mode g.sr)
 
   pub moves_to_bar :
       (o : opcode g.ir ≡ 16) (p : bit 25 g.ir ≡ false) (q : bit 23 g.ir ≡ true) (n : system_number g.ir ≡ 8)
-      → Reaches deny lines b dt 16 None 4 (effect_of deny b (Instruction.move_to_system 8) (pc_risen b))
+      → Reaches deny lines b dt 16 None 4 (effect_of deny b (Instruction.move_to_system 8) (with_risen_pc b))
   unfolding rows
   moves_to_bar o p q n =
       record {
@@ -447,20 +452,20 @@ module _ (deny : Refusals) (lines : ℕ) (b : Book) (dt : ℕ) (fit : Fit b) (la
   moves_to_sr_rows = (16, init) ∷ (320, copro) ∷ (129, mtc0) ∷ (172, row x.Rt y.C0 Sum r.Sr m.If e.Ibe s.Rie 16) ∷ []
 
   moves_to_sr_last : (n : ℕ)
-      → walk deny lines ((172, row x.Rt y.C0 Sum r.Sr m.If e.Ibe s.Rie 16) ∷ []) (amid b (pc_risen b) dt None n)
-      ≡ ending lines (after_fetch deny (to_system b (pc_risen b) 12)) dt
+      → walk deny lines ((172, row x.Rt y.C0 Sum r.Sr m.If e.Ibe s.Rie 16) ∷ []) (amid b (with_risen_pc b) dt None n)
+      ≡ ending lines (after_fetch deny (to_system b (with_risen_pc b) 12)) dt
   moves_to_sr_last n = split unfetched (λ q. simp (q, rt_word b fit)) (λ q. simp (q, rt_word b fit))
 
   moves_to_sr_walk :
       walk deny lines moves_to_sr_rows (world_at b dt 16 None)
-      ≡ ending lines (after_fetch deny (effect_of deny b (Instruction.move_to_system 12) (pc_risen b))) dt
+      ≡ ending lines (after_fetch deny (effect_of deny b (Instruction.move_to_system 12) (with_risen_pc b))) dt
   moves_to_sr_walk =
       moved_mode ((172, row x.Rt y.C0 Sum r.Sr m.If e.Ibe s.Rie 16) ∷ []) (160 + system_number g.ir)
-      (to_system b (pc_risen b) 12) (moves_to_sr_last (160 + system_number g.ir)) refl (user_mode g.sr)
+      (to_system b (with_risen_pc b) 12) (moves_to_sr_last (160 + system_number g.ir)) refl (is_user_mode g.sr)
 
   pub moves_to_sr :
       (o : opcode g.ir ≡ 16) (p : bit 25 g.ir ≡ false) (q : bit 23 g.ir ≡ true) (n : system_number g.ir ≡ 12)
-      → Reaches deny lines b dt 16 None 4 (effect_of deny b (Instruction.move_to_system 12) (pc_risen b))
+      → Reaches deny lines b dt 16 None 4 (effect_of deny b (Instruction.move_to_system 12) (with_risen_pc b))
   unfolding rows
   moves_to_sr o p q n =
       record {
@@ -481,20 +486,20 @@ module _ (deny : Refusals) (lines : ℕ) (b : Book) (dt : ℕ) (fit : Fit b) (la
   moves_to_cr_rows = (16, init) ∷ (320, copro) ∷ (129, mtc0) ∷ (173, row x.Rt y.C0 Sum r.Cr m.If e.Ibe s.Rie 16) ∷ []
 
   moves_to_cr_last : (n : ℕ)
-      → walk deny lines ((173, row x.Rt y.C0 Sum r.Cr m.If e.Ibe s.Rie 16) ∷ []) (amid b (pc_risen b) dt None n)
-      ≡ ending lines (after_fetch deny (to_system b (pc_risen b) 13)) dt
+      → walk deny lines ((173, row x.Rt y.C0 Sum r.Cr m.If e.Ibe s.Rie 16) ∷ []) (amid b (with_risen_pc b) dt None n)
+      ≡ ending lines (after_fetch deny (to_system b (with_risen_pc b) 13)) dt
   moves_to_cr_last n = split unfetched (λ q. simp (q, rt_word b fit)) (λ q. simp (q, rt_word b fit))
 
   moves_to_cr_walk :
       walk deny lines moves_to_cr_rows (world_at b dt 16 None)
-      ≡ ending lines (after_fetch deny (effect_of deny b (Instruction.move_to_system 13) (pc_risen b))) dt
+      ≡ ending lines (after_fetch deny (effect_of deny b (Instruction.move_to_system 13) (with_risen_pc b))) dt
   moves_to_cr_walk =
       moved_mode ((173, row x.Rt y.C0 Sum r.Cr m.If e.Ibe s.Rie 16) ∷ []) (160 + system_number g.ir)
-      (to_system b (pc_risen b) 13) (moves_to_cr_last (160 + system_number g.ir)) refl (user_mode g.sr)
+      (to_system b (with_risen_pc b) 13) (moves_to_cr_last (160 + system_number g.ir)) refl (is_user_mode g.sr)
 
   pub moves_to_cr :
       (o : opcode g.ir ≡ 16) (p : bit 25 g.ir ≡ false) (q : bit 23 g.ir ≡ true) (n : system_number g.ir ≡ 13)
-      → Reaches deny lines b dt 16 None 4 (effect_of deny b (Instruction.move_to_system 13) (pc_risen b))
+      → Reaches deny lines b dt 16 None 4 (effect_of deny b (Instruction.move_to_system 13) (with_risen_pc b))
   unfolding rows
   moves_to_cr o p q n =
       record {
@@ -515,20 +520,20 @@ module _ (deny : Refusals) (lines : ℕ) (b : Book) (dt : ℕ) (fit : Fit b) (la
   moves_to_epc_rows = (16, init) ∷ (320, copro) ∷ (129, mtc0) ∷ (174, row x.Rt y.C0 Sum r.Epc m.If e.Ibe s.Rie 16) ∷ []
 
   moves_to_epc_last : (n : ℕ)
-      → walk deny lines ((174, row x.Rt y.C0 Sum r.Epc m.If e.Ibe s.Rie 16) ∷ []) (amid b (pc_risen b) dt None n)
-      ≡ ending lines (after_fetch deny (to_system b (pc_risen b) 14)) dt
+      → walk deny lines ((174, row x.Rt y.C0 Sum r.Epc m.If e.Ibe s.Rie 16) ∷ []) (amid b (with_risen_pc b) dt None n)
+      ≡ ending lines (after_fetch deny (to_system b (with_risen_pc b) 14)) dt
   moves_to_epc_last n = split unfetched (λ q. simp (q, rt_word b fit)) (λ q. simp (q, rt_word b fit))
 
   moves_to_epc_walk :
       walk deny lines moves_to_epc_rows (world_at b dt 16 None)
-      ≡ ending lines (after_fetch deny (effect_of deny b (Instruction.move_to_system 14) (pc_risen b))) dt
+      ≡ ending lines (after_fetch deny (effect_of deny b (Instruction.move_to_system 14) (with_risen_pc b))) dt
   moves_to_epc_walk =
       moved_mode ((174, row x.Rt y.C0 Sum r.Epc m.If e.Ibe s.Rie 16) ∷ []) (160 + system_number g.ir)
-      (to_system b (pc_risen b) 14) (moves_to_epc_last (160 + system_number g.ir)) refl (user_mode g.sr)
+      (to_system b (with_risen_pc b) 14) (moves_to_epc_last (160 + system_number g.ir)) refl (is_user_mode g.sr)
 
   pub moves_to_epc :
       (o : opcode g.ir ≡ 16) (p : bit 25 g.ir ≡ false) (q : bit 23 g.ir ≡ true) (n : system_number g.ir ≡ 14)
-      → Reaches deny lines b dt 16 None 4 (effect_of deny b (Instruction.move_to_system 14) (pc_risen b))
+      → Reaches deny lines b dt 16 None 4 (effect_of deny b (Instruction.move_to_system 14) (with_risen_pc b))
   unfolding rows
   moves_to_epc o p q n =
       record {
@@ -546,29 +551,31 @@ module _ (deny : Refusals) (lines : ℕ) (b : Book) (dt : ℕ) (fit : Fit b) (la
       }
 
   moves_to_none_made : (n : ℕ) → eqb n 8 ≡ false → eqb n 12 ≡ false → eqb n 13 ≡ false → eqb n 14 ≡ false
-      → to_system b (pc_risen b) n ≡ with_fault b f.Ri (pc_risen b)
+      → to_system b (with_risen_pc b) n ≡ with_fault b f.Ri (with_risen_pc b)
   moves_to_none_made n h8 h12 h13 h14 =
-      none_of n (without_fault b (with_bar (reg g (rt g.ir)) (pc_risen b))) (to_sr b (pc_risen b))
-      (without_fault b (with_cr (reg g (rt g.ir)) (pc_risen b)))
-      (without_fault b (with_epc (reg g (rt g.ir)) (pc_risen b))) (with_fault b f.Ri (pc_risen b)) h8 h12 h13 h14
+      none_of n (without_fault b (with_bar (reg g (rt g.ir)) (with_risen_pc b))) (to_sr b (with_risen_pc b))
+      (without_fault b (with_cr (reg g (rt g.ir)) (with_risen_pc b)))
+      (without_fault b (with_epc (reg g (rt g.ir)) (with_risen_pc b)))
+      (with_fault b f.Ri (with_risen_pc b)) h8 h12 h13 h14
 
   abbrev moves_to_none_rows : (n : ℕ) → Rows
   moves_to_none_rows n = (16, init) ∷ (320, copro) ∷ (129, mtc0) ∷ (160 + n, illegal) ∷ (15, fetch) ∷ []
 
   moves_to_none_walk : (n : ℕ) → eqb n 8 ≡ false → eqb n 12 ≡ false → eqb n 13 ≡ false → eqb n 14 ≡ false
       → walk deny lines (moves_to_none_rows n) (world_at b dt 16 None)
-      ≡ ending lines (after_fetch deny (effect_of deny b (Instruction.move_to_system n) (pc_risen b))) dt
+      ≡ ending lines (after_fetch deny (effect_of deny b (Instruction.move_to_system n) (with_risen_pc b))) dt
   moves_to_none_walk n h8 h12 h13 h14 =
-      moved_mode ((160 + n, illegal) ∷ (15, fetch) ∷ []) (160 + system_number g.ir) (with_fault b f.Ri (pc_risen b))
-      refl refl (user_mode g.sr)
-      ∙ ap (λ (v : Effect). ending lines (after_fetch deny (unless_user_mode b (pc_risen b) v)) dt)
+      moved_mode ((160 + n, illegal) ∷ (15, fetch) ∷ []) (160 + system_number g.ir)
+      (with_fault b f.Ri (with_risen_pc b))
+      refl refl (is_user_mode g.sr)
+      ∙ ap (λ (v : Effect). ending lines (after_fetch deny (unless_user_mode b (with_risen_pc b) v)) dt)
       (sym (moves_to_none_made n h8 h12 h13 h14))
 
   pub moves_to_none :
       (k : ℕ) (o : opcode g.ir ≡ 16) (p : bit 25 g.ir ≡ false) (q : bit 23 g.ir ≡ true) (n : system_number g.ir ≡ k)
       (h1 : row_at (160 + k) ≡ illegal) (h8 : eqb k 8 ≡ false) (h12 : eqb k 12 ≡ false) (h13 : eqb k 13 ≡ false)
       (h14 : eqb k 14 ≡ false)
-      → Reaches deny lines b dt 16 None 5 (effect_of deny b (Instruction.move_to_system k) (pc_risen b))
+      → Reaches deny lines b dt 16 None 5 (effect_of deny b (Instruction.move_to_system k) (with_risen_pc b))
   unfolding rows
   moves_to_none k o p q n h1 h8 h12 h13 h14 =
       record {

@@ -2,7 +2,7 @@
 use Rattle.std.proofs.Common.{◌≡◌, ℕ, ◌+◌, ◌*◌, ◌%◌, ◌^◌, ◌<◌, Bool, true, false, not, ◌&&◌, List, [], ◌∷◌, length}
 use Rattle.std.proofs.Common.{is_some, None, Option, refl, ap, ◌∙◌, arith}
 use Rattle.bus.specs.Request.{word_of}
-use Rattle.machine.specs.Interrupt.{interrupting, resetting}
+use Rattle.machine.specs.Interrupt.{is_interrupting, is_resetting}
 use Rattle.machine.specs.Operation.{one_if}
 use Rattle.machine.specs.Registers.{Regs, reg}
 use Rattle.machine.specs.Word.{rs, rt}
@@ -66,7 +66,8 @@ ending lines m dt =
             dt = dt;
             flag = m.fault;
             row =
-                16 + one_if (resetting lines) * 4 + one_if (interrupting m.mask lines) * 2 + one_if (is_some m.fault);
+                16 + one_if (is_resetting lines) * 4 + one_if (is_interrupting m.event_sr lines) * 2 + one_if
+                (is_some m.fault);
             sampled = lines;
             ledger = m.ledger;
           };

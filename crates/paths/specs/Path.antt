@@ -2,7 +2,7 @@
 use Rattle.std.specs.Prelude.{◌≡◌, ℕ, ◌+◌, ◌<◌, ◌≤◌, Bool, true, false, ◌⊎◌, Some, None, Option}
 use Rattle.machine.specs.declared.fault.Fault.{Fault}
 use Rattle.rows.specs.Rows.{row_at}
-use Rattle.microprogram.specs.Cycle.{ends_path, power_up}
+use Rattle.microprogram.specs.Cycle.{ends_path, state_at_power_up}
 use Rattle.book.specs.Book.{Book, Event, Refusals, first_state, step}
 use Rattle.book.specs.Fit.{Fit}
 use Rattle.book.specs.Length.{length_of}
@@ -33,7 +33,7 @@ pub record Stands (b : Book) (s : World) : Type 0 where
 
 -- at power-up the microprogram stands at the book's first state
 abbrev pub Begins : Type 0
-Begins = (bytes : ℕ → ℕ) → Stands (first_state bytes) (record { state = power_up; bytes = bytes })
+Begins = (bytes : ℕ → ℕ) → Stands (first_state bytes) (record { state = state_at_power_up; bytes = bytes })
 
 -- whether the cycle that a world is about to make ends a path
 abbrev pub world_ends_path : World → Bool

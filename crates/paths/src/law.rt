@@ -5,8 +5,7 @@ ghost use Rattle.paths.specs.Path.{Begins, StepsArePaths};
 
 use machine::law::words_stay_words;
 
-/// Each step of the book is a path of rows of exactly the book's length. This is a proof and no code: who calls it has
-/// its contract.
+/// A theorem: each step of the book is a path of rows of exactly the book's length. Who calls it has its contract.
 pub fn steps_are_paths()
     ensures memory { StillKeeps }
     ensures paths { StepsArePaths }

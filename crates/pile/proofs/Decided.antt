@@ -11,7 +11,7 @@ use Rattle.bus.specs.declared.request.Access.{Access}
 use Rattle.bus.specs.declared.request.Answer.{Answer}
 use Rattle.bus.specs.declared.request.Answer.TheVariants.{Wait, BusError, Done}
 use Rattle.bus.specs.declared.request.Request.{Request}
-use Rattle.layers.specs.Delay.{DelaySteps, delay_means, state_after, count_left, own_waits}
+use Rattle.layers.specs.Delay.{DelaySteps, delay_means, delay_state_after, count_left, own_waits}
 use Rattle.layers.specs.Split.{SplitSteps, split_means}
 use Rattle.layers.specs.declared.delay.Delay.{Delay}
 use Rattle.layers.specs.declared.delay.State.TheVariants.{Idle, Counting}
@@ -20,7 +20,8 @@ use Rattle.pile.specs.Decided.{meaning_after}
 use Rattle.pile.specs.Job.{PileSteps, pile_means}
 
 -- an answer that is no wait leaves a delay idle
-idle : (x : Access) (b r : Bool) (w : ℕ) → b ≡ false → state_after x (cond b Wait (cond r BusError (Done w))) ≡ Idle
+idle : (x : Access) (b r : Bool) (w : ℕ) → b ≡ false
+    → delay_state_after x (cond b Wait (cond r BusError (Done w))) ≡ Idle
 idle x true r w e = absurd (cc)
 idle x false true w e = refl
 idle x false false w e = refl
@@ -66,7 +67,7 @@ module _ {A : Type 0} (means : A → Meaning) (steps : A → Request → Answer 
       go : (b : Bool) → nat_lt 0 c ≡ b
           → MatchBool b
           ((a ≡ Wait) × (t.state ≡ Counting (access_of q) (c - 1)) × (t.below ≡ s.below))
-          (steps s.below q a t.below × (t.state ≡ state_after (access_of q) a))
+          (steps s.below q a t.below × (t.state ≡ delay_state_after (access_of q) a))
           → (delay_means means t).waits x ≡ (meaning_after m q).waits x
       go true e h1 =
           let stalls : is_stalled m q ≡ true = lt-ltb 0 _ (omega (arith, ltb-true 0 c e)) in
@@ -77,7 +78,7 @@ module _ {A : Type 0} (means : A → Meaning) (steps : A → Request → Answer 
           let goes : is_stalled m q ≡ false = le-ltb 0 _ (omega (arith, ltb-false 0 c e, none)) in
           let answers : a ≡ answer m q = (keeps.tells s q a t h).answered in
           let ends = idle (access_of q) (is_stalled m q) (is_refused m q) (done_word m q) goes in
-          let done : t.state ≡ Idle = h1.1 ∙ ap (state_after (access_of q)) answers ∙ ends in
+          let done : t.state ≡ Idle = h1.1 ∙ ap (delay_state_after (access_of q)) answers ∙ ends in
           subst₃ (λ n o w. count_left n o x + w ≡ (meaning_after m q).waits x) (sym same_top) (sym done)
           (sym (at_once t.below x))
           (fills (is_stalled m q) (same_access (access_of q) x) c k ((means s.below).waits (access_of q)) _ goes

@@ -13,7 +13,7 @@ use Rattle.memories.specs.Ram.{RamSteps, ram_means}
 use Rattle.memories.specs.Region.{ram}
 use Rattle.memories.specs.declared.ram.Ram.{Ram}
 
--- where the two memories stand, how many bytes they have, and where they are parted
+-- where the two memories stand, how many bytes they have, and where they are separated
 abbrev pub low_base : ℕ
 low_base = 0x80000000
 

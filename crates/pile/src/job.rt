@@ -11,7 +11,7 @@ use layers::split::Split;
 use memories::ram::Ram;
 
 /// Where the two memories meet.
-const MARK: u32 = 0xA000_0000;
+const SPLIT_MARK: u32 = 0xA000_0000;
 
 const LOW_BASE: u32 = 0x8000_0000;
 
@@ -42,19 +42,23 @@ impl Memories {
         }
     }
 
-    /// Lends the bytes to the pile: one wait for each request, over RAM at 80000000 and at BFC00000.
+    /// The pile, which borrows the bytes: one wait for each request, over RAM at 80000000 and at BFC00000.
     pub fn pile(&mut self) -> Pile<'_>
         ensures { pile_means result ≡ job_pile self.old.low self.old.high }
     {
         let Memories { low, high } = self;
-        let split = Split::new(MARK, Ram::new(LOW_BASE, low), Ram::new(HIGH_BASE, high));
+        let split = Split::new(
+            SPLIT_MARK,
+            Ram::new(LOW_BASE, low),
+            Ram::new(HIGH_BASE, high),
+        );
         Delay::new(1, split)
     }
 }
 
-/// The pile is decided: each request makes of what it means exactly the next meaning. A proof and no code: the crates
-/// above call it for its contract. `IsDecided` is of `Rattle.bus.specs.Decided`.
-pub fn goes_on()
+/// A theorem: the pile is decided. After each request its meaning is exactly `meaning_after` of the one before. Who calls
+/// it has its contract.
+pub fn pile_is_decided()
     ensures { IsDecided pile_means PileSteps meaning_after }
 {
     Pile::keeps();

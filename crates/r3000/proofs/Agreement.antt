@@ -7,7 +7,7 @@ use Rattle.bus.specs.declared.request.Answer.{Answer}
 use Rattle.bus.specs.declared.request.Request.{Request}
 use Rattle.book.specs.Book.{Book, Refusals, step}
 use Rattle.paths.specs.Instant.{World, tick, ticks}
-use Rattle.microprogram.specs.Cycle.{State, ends_path, power_up, state_after}
+use Rattle.microprogram.specs.Cycle.{State, ends_path, state_at_power_up, state_after}
 use Rattle.book.specs.Length.{length_of}
 use Rattle.book.specs.Fit.{Fit}
 use Rattle.paths.specs.Path.{Stands, Walks, world_at, world_ends_path}
@@ -65,11 +65,12 @@ module _ {S : Type 0} {means : S → Meaning} {steps : S → Request → Answer 
     pub fit : Fit (book h)
     pub from : World
     pub stands : Stands (book h) from
-    pub ticked : (l : ℕ) → world below.memory keeps c ≡ ticks (refusals (means start)) l c.observed.report.place from
-    pub short : c.observed.report.place < length_of (book h) (book h).event
-    pub boundaries : length h.boundary_lines ≡ c.observed.report.boundaries
-    pub sum : c.observed.report.cycles
-        ≡ c.observed.report.frozen + total_length (means start) h.boundary_lines + c.observed.report.place
+    pub ticked : (l : ℕ)
+        → world below.memory keeps c ≡ ticks (refusals (means start)) l c.observation.report.place from
+    pub short : c.observation.report.place < length_of (book h) (book h).event
+    pub boundaries : length h.boundary_lines ≡ c.observation.report.boundaries
+    pub sum : c.observation.report.cycles
+        ≡ c.observation.report.frozen + total_length (means start) h.boundary_lines + c.observation.report.place
 
   pub way_start : OnTheWay no_history (core_at_power_up start)
   unfolding ticks
@@ -77,7 +78,7 @@ module _ {S : Type 0} {means : S → Meaning} {steps : S → Request → Answer 
       record {
         refuses = refl;
         fit = below.fits (means start).byte (keeps.sound start).bytes;
-        from = record { state = power_up; bytes = (means start).byte };
+        from = record { state = state_at_power_up; bytes = (means start).byte };
         stands = below.begins (means start).byte;
         ticked = λ l. refl;
         short = omega arith;
@@ -136,7 +137,7 @@ module _ {S : Type 0} {means : S → Meaning} {steps : S → Request → Answer 
   -- whether this cycle ends it
   ending_here : (h : History) (c : Machine S) (w : OnTheWay h c)
       → ends_path (current_row c.processor.state).sequencing
-      ≡ world_ends_path (ticks (refusals (means start)) c.processor.lines c.observed.report.place w.from)
+      ≡ world_ends_path (ticks (refusals (means start)) c.processor.lines c.observation.report.place w.from)
   ending_here h c w = ap world_ends_path (w.ticked c.processor.lines)
 
   -- an unfrozen cycle within a step
@@ -144,15 +145,15 @@ module _ {S : Type 0} {means : S → Meaning} {steps : S → Request → Answer 
       → ends_path (current_row c.processor.state).sequencing ≡ false → OnTheWay h c
       → OnTheWay (record { boundary_lines = h.boundary_lines; since = h.since + 1 }) d
   way_on h c d k e w =
-      let n : ℕ = c.observed.report.place in
-      let count : d.observed.report
+      let n : ℕ = c.observation.report.place in
+      let count : d.observation.report
       ≡ record {
-        cycles = c.observed.report.cycles + 1;
-        frozen = c.observed.report.frozen;
-        boundaries = c.observed.report.boundaries;
+        cycles = c.observation.report.cycles + 1;
+        frozen = c.observation.report.frozen;
+        boundaries = c.observation.report.boundaries;
         place = n + 1;
       } =
-      report_of k ∙ ap (λ b. report_after false b c.observed.report) e in
+      report_of k ∙ ap (λ b. report_after false b c.observation.report) e in
       record {
         refuses = still_refuses h c d false k w;
         fit = w.fit;
@@ -173,11 +174,11 @@ module _ {S : Type 0} {means : S → Meaning} {steps : S → Request → Answer 
             (omega (arith, w.sum));
       }
     where
-      further : (c.observed.report.place + 1 ≡ length_of (book h) (book h).event)
-          ⊎ (c.observed.report.place + 1 ≡ length_of (book h) (book h).event → ⊥)
-          → c.observed.report.place + 1 < length_of (book h) (book h).event
+      further : (c.observation.report.place + 1 ≡ length_of (book h) (book h).event)
+          ⊎ (c.observation.report.place + 1 ≡ length_of (book h) (book h).event → ⊥)
+          → c.observation.report.place + 1 < length_of (book h) (book h).event
       further (inl last) =
-          absurd (both_ways _ (sym (ending_here h c w) ∙ e) ((walking h c w).ending c.observed.report.place last))
+          absurd (both_ways _ (sym (ending_here h c w) ∙ e) ((walking h c w).ending c.observation.report.place last))
       further (inr more) = omega (arith, w.short)
 
   -- an unfrozen cycle that ends it: a boundary
@@ -186,15 +187,15 @@ module _ {S : Type 0} {means : S → Meaning} {steps : S → Request → Answer 
       → OnTheWay (record { boundary_lines = c.processor.lines ∷ h.boundary_lines; since = 0 }) d
   unfolding ticks
   way_over h c d k e w =
-      let n : ℕ = c.observed.report.place in
-      let count : d.observed.report
+      let n : ℕ = c.observation.report.place in
+      let count : d.observation.report
       ≡ record {
-        cycles = c.observed.report.cycles + 1;
-        frozen = c.observed.report.frozen;
-        boundaries = c.observed.report.boundaries + 1;
+        cycles = c.observation.report.cycles + 1;
+        frozen = c.observation.report.frozen;
+        boundaries = c.observation.report.boundaries + 1;
         place = 0;
       } =
-      report_of k ∙ ap (λ b. report_after false b c.observed.report) e in
+      report_of k ∙ ap (λ b. report_after false b c.observation.report) e in
       let whole : n + 1 ≡ length_of (book h) (book h).event =
       last (cases_eq (n + 1) (length_of (book h) (book h).event)) in
       let arrived : world below.memory keeps d
@@ -230,31 +231,34 @@ module _ {S : Type 0} {means : S → Meaning} {steps : S → Request → Answer 
             (sym count) (omega (arith, w.sum));
       }
     where
-      last : (c.observed.report.place + 1 ≡ length_of (book h) (book h).event)
-          ⊎ (c.observed.report.place + 1 ≡ length_of (book h) (book h).event → ⊥)
-          → c.observed.report.place + 1 ≡ length_of (book h) (book h).event
+      last : (c.observation.report.place + 1 ≡ length_of (book h) (book h).event)
+          ⊎ (c.observation.report.place + 1 ≡ length_of (book h) (book h).event → ⊥)
+          → c.observation.report.place + 1 ≡ length_of (book h) (book h).event
       last (inl whole) = whole
       last (inr more) =
           absurd
-          (both_ways _ ((walking h c w).going c.observed.report.place (omega (arith, w.short)))
+          (both_ways _ ((walking h c w).going c.observation.report.place (omega (arith, w.short)))
           (sym (ending_here h c w) ∙ e))
 
-  pub way_cycle : (c d : Machine S) (f : Bool) → Cycle steps c f d → OnTheWay c.observed.history c
-      → OnTheWay d.observed.history d
-  way_cycle c d true k w = subst (λ h. OnTheWay h d) (sym (history_of k)) (way_frozen c.observed.history c d k w)
+  pub way_cycle : (c d : Machine S) (f : Bool) → Cycle steps c f d → OnTheWay c.observation.history c
+      → OnTheWay d.observation.history d
+  way_cycle c d true k w = subst (λ h. OnTheWay h d) (sym (history_of k)) (way_frozen c.observation.history c d k w)
   way_cycle c d false k w =
       subst (λ h. OnTheWay h d) (sym (history_of k)) (by (ends_path (current_row c.processor.state).sequencing) refl)
     where
       by : (e : Bool) → ends_path (current_row c.processor.state).sequencing ≡ e
           → OnTheWay
           (cond {A = History} e
-          (record { boundary_lines = c.processor.lines ∷ c.observed.history.boundary_lines; since = 0 })
-          (record { boundary_lines = c.observed.history.boundary_lines; since = c.observed.history.since + 1 })) d
-      by true e = way_over c.observed.history c d k e w
-      by false e = way_on c.observed.history c d k e w
+          (record { boundary_lines = c.processor.lines ∷ c.observation.history.boundary_lines; since = 0 })
+          (record {
+            boundary_lines = c.observation.history.boundary_lines;
+            since = c.observation.history.since + 1;
+          })) d
+      by true e = way_over c.observation.history c d k e w
+      by false e = way_on c.observation.history c d k e w
 
   -- where the place is 0, the core stands at the book's state
-  pub agrees : (h : History) (c : Machine S) → OnTheWay h c → c.observed.report.place ≡ 0
+  pub agrees : (h : History) (c : Machine S) → OnTheWay h c → c.observation.report.place ≡ 0
       → Agrees (book h) c.processor.state (means c.pile)
   unfolding ticks
   agrees h c w z =
@@ -262,7 +266,7 @@ module _ {S : Type 0} {means : S → Meaning} {steps : S → Request → Answer 
       w.ticked 0 ∙ ap (λ n. ticks (refusals (means start)) 0 n w.from) z ∙ w.stands.is in
       record {
         regs = ap (λ s. s.state.regs) same;
-        lines = ap (λ s. s.state.sampled) same;
+        sampled = ap (λ s. s.state.sampled) same;
         ledger = ap (λ s. s.state.ledger) same;
         bytes = λ x. ap (λ s. s.bytes x) same;
       }

@@ -22,15 +22,15 @@ one_flag o f g h k = let same : Some f ≡ Some g = sym h ∙ k in cc
 
 module _ {S : Type 0} {means : S → Meaning} {steps : S → Request → Answer → S → Type 0} (below : Below)
     (keeps : Keeps means steps) (start : S) where
-  on_the_way : (c : Machine S) → IsReached steps start c → OnTheWay below keeps start c.observed.history c
+  on_the_way : (c : Machine S) → IsReached steps start c → OnTheWay below keeps start c.observation.history c
   on_the_way c IsReached.power_up = way_start below keeps start
   on_the_way c (IsReached.cycle b d f r k) = way_cycle below keeps start b d f k (on_the_way b r)
-  on_the_way c (IsReached.set_lines b l few r) = way_lines below keeps start b.observed.history b l (on_the_way b r)
+  on_the_way c (IsReached.set_lines b l few r) = way_lines below keeps start b.observation.history b l (on_the_way b r)
 
-  soon : (c : Machine S) → IsReached steps start c → Soon below keeps start c.observed.history.since c
+  soon : (c : Machine S) → IsReached steps start c → Soon below keeps start c.observation.history.since c
   soon c IsReached.power_up = soon_start below keeps start
   soon c (IsReached.cycle b d f r k) = soon_cycle below keeps start b d f k (soon b r)
-  soon c (IsReached.set_lines b l few r) = soon_lines below keeps start b.observed.history.since b l (soon b r)
+  soon c (IsReached.set_lines b l few r) = soon_lines below keeps start b.observation.history.since b l (soon b r)
 
   zero_cycle : (c d : Machine S) (f : Bool) → Cycle steps c f d
       → reg d.processor.state.regs 0 ≡ reg c.processor.state.regs 0
@@ -49,9 +49,9 @@ module _ {S : Type 0} {means : S → Meaning} {steps : S → Request → Answer 
   kept c r =
       record {
         boundaries = (on_the_way c r).boundaries;
-        agreement = agrees below keeps start c.observed.history c (on_the_way c r);
+        agreement = agrees below keeps start c.observation.history c (on_the_way c r);
         sum = (on_the_way c r).sum;
-        promptness = at_least_a_row below keeps start c.observed.history.since c (soon c r);
+        promptness = at_least_a_row below keeps start c.observation.history.since c (soon c r);
         register_0 = register_0 c r;
         one_flag = one_flag c.processor.state.flag;
       }

@@ -1,7 +1,7 @@
 mod Agreement
 mod Answered
 mod Below
-mod CallList
+mod Performs
 mod DecidedCycles
 mod Law
 mod Parts

@@ -50,7 +50,7 @@ true_test false h = absurd h
 abbrev touches : State → ℕ
 touches c = access_count (current_row c).transfer
 
--- the first row of an within path makes no more accesses than the path
+-- the row at hand makes no more accesses than its way has
 first : (rows touch : ℕ) (c : State) → T (ends_within rows touch c.row) → touches c ≤ touch
 unfolding ends_within
 first zero touch c h = absurd h
@@ -79,11 +79,12 @@ module _ {S : Type 0} {means : S → Meaning} {steps : S → Request → Answer 
     pub touch : ℕ
     pub path : T (ends_within rows touch c.processor.state.row)
     pub near : since + rows
-        + ((touch - touches c.processor.state) * (means start).longest + waiting (means c.pile) (next_request c)) ≤ 7
-        + 2 * (means start).longest
+        + ((touch - touches c.processor.state) * (means start).longest + waiting (means c.pile) (next_request c))
+        ≤ latest_boundary (means start)
 
   -- a row that is come to
-  comes : (since : ℕ) (c : Machine S) → (means c.pile).longest ≡ (means start).longest → c.processor.state.row < row_count
+  comes : (since : ℕ) (c : Machine S) → (means c.pile).longest ≡ (means start).longest
+      → c.processor.state.row < row_count
       → (rows touch : ℕ) → T (ends_within rows touch c.processor.state.row)
       → since + rows + touch * (means start).longest ≤ latest_boundary (means start) → Soon since c
   comes since c longest row rows touch path near =
@@ -107,7 +108,8 @@ module _ {S : Type 0} {means : S → Meaning} {steps : S → Request → Answer 
       }
 
   -- a boundary, and power-up
-  anew : (c : Machine S) → (means c.pile).longest ≡ (means start).longest → c.processor.state.row < row_count → Soon 0 c
+  anew : (c : Machine S) → (means c.pile).longest ≡ (means start).longest → c.processor.state.row < row_count
+      → Soon 0 c
   anew c longest row =
       comes 0 c longest row path_budget.rows path_budget.accesses (right _ _ (below.rows c.processor.state.row row))
       (omega arith)
@@ -126,7 +128,8 @@ module _ {S : Type 0} {means : S → Meaning} {steps : S → Request → Answer 
 
   is_row : (since : ℕ) (c d : Machine S) → Cycle steps c false d → Soon since c → d.processor.state.row < row_count
   is_row since c d h near =
-      ltb-true _ _ (true_test _ (next (λ k. ltb k row_count) c d h (left _ _ (below.rows c.processor.state.row near.row))))
+      ltb-true _ _ (true_test _
+      (next (λ k. ltb k row_count) c d h (left _ _ (below.rows c.processor.state.row near.row))))
 
   stays : (since : ℕ) (c d : Machine S) (f : Bool) → Cycle steps c f d → Soon since c
       → (means d.pile).longest ≡ (means start).longest
@@ -174,21 +177,24 @@ module _ {S : Type 0} {means : S → Meaning} {steps : S → Request → Answer 
   soon_over since c d h near = anew d (stays since c d false h near) (is_row since c d h near)
 
   -- each cycle, with its history
-  pub soon_cycle : (c d : Machine S) (f : Bool) → Cycle steps c f d → Soon c.observed.history.since c
-      → Soon d.observed.history.since d
+  pub soon_cycle : (c d : Machine S) (f : Bool) → Cycle steps c f d → Soon c.observation.history.since c
+      → Soon d.observation.history.since d
   soon_cycle c d true k near =
-      subst (λ h. Soon h.since d) (sym (history_of k)) (soon_frozen c.observed.history.since c d k near)
+      subst (λ h. Soon h.since d) (sym (history_of k)) (soon_frozen c.observation.history.since c d k near)
   soon_cycle c d false k near =
       subst (λ h. Soon h.since d) (sym (history_of k)) (by (ends_path (current_row c.processor.state).sequencing) refl)
     where
       by : (e : Bool) → ends_path (current_row c.processor.state).sequencing ≡ e
           → Soon
           (cond {A = History} e
-          (record { boundary_lines = c.processor.lines ∷ c.observed.history.boundary_lines; since = 0 })
-          (record { boundary_lines = c.observed.history.boundary_lines; since = c.observed.history.since + 1 })).since
+          (record { boundary_lines = c.processor.lines ∷ c.observation.history.boundary_lines; since = 0 })
+          (record {
+            boundary_lines = c.observation.history.boundary_lines;
+            since = c.observation.history.since + 1;
+          })).since
           d
-      by true e = soon_over c.observed.history.since c d k near
-      by false e = soon_on c.observed.history.since c d k e near
+      by true e = soon_over c.observation.history.since c d k near
+      by false e = soon_on c.observation.history.since c d k e near
 
   pub soon_lines : (since : ℕ) (c : Machine S) (l : ℕ) → Soon since c → Soon since (with_lines l c)
   soon_lines since c l near =

@@ -40,22 +40,22 @@ module _ {S : Type 0} {means : S → Meaning} {steps : S → Request → Answer 
       ((h.0, h.1, before.0, h.3, here), here)
 
   pub clocks : (c d : Machine S) (q : Result Clocked Denial) → Clocks steps c q d → Upholds means steps c d
-  clocks c d q h = by (check_cycles 1 c.observed.report) h
+  clocks c d q h = by (check_cycles 1 c.observation.report) h
     where
       by : (o : Result (Unit {0}) Denial)
           → WhereGranted o c q d
           ((frozen : Bool) × Cycle steps c frozen d
-          × (q ≡ Ok (record { frozen = frozen; report = d.observed.report }))) → Upholds means steps c d
+          × (q ≡ Ok (record { frozen = frozen; report = d.observation.report }))) → Upholds means steps c d
       by (Err e) h = stays c d h.1
       by (Ok _) h = upholds c d (λ start r. IsReached.cycle c d h.0 r h.1)
 
   pub runs : (n : ℕ) (c d : Machine S) (q : Result Report Denial) → Runs steps Anything n c q d
       → Runs steps (Upholds means steps c) n c q d × Upholds means steps c d
-  runs n c d q h = by (check_run n c.observed.report) h
+  runs n c d q h = by (check_run n c.observation.report) h
     where
       by : (o : Result (Unit {0}) Denial)
-          → WhereGranted o c q d (Cycles steps Anything n c d × (q ≡ Ok d.observed.report))
-          → WhereGranted o c q d (Cycles steps (Upholds means steps c) n c d × (q ≡ Ok d.observed.report))
+          → WhereGranted o c q d (Cycles steps Anything n c d × (q ≡ Ok d.observation.report))
+          → WhereGranted o c q d (Cycles steps (Upholds means steps c) n c d × (q ≡ Ok d.observation.report))
           × Upholds means steps c d
       by (Err e) h = (h, stays c d h.1)
       by (Ok _) h = let all : Cycles steps (Upholds means steps c) n c d × Upholds means steps c d =

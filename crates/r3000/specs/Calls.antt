@@ -34,14 +34,14 @@ WhereGranted (Ok _) c r d does = does
 abbrev pub Clocks : {S : Type 0} → (S → Request → Answer → S → Type 0) → Machine S → Result Clocked Denial → Machine S
     → Type 0
 Clocks steps c r d =
-    WhereGranted (check_cycles 1 c.observed.report) c r d
-    ((frozen : Bool) × Cycle steps c frozen d × (r ≡ Ok (record { frozen = frozen; report = d.observed.report })))
+    WhereGranted (check_cycles 1 c.observation.report) c r d
+    ((frozen : Bool) × Cycle steps c frozen d × (r ≡ Ok (record { frozen = frozen; report = d.observation.report })))
 
 -- run: so many cycles, one after another, and what is said of the core after each of them
 abbrev pub Runs : {S : Type 0} → (S → Request → Answer → S → Type 0) → (Machine S → Type 0)
     → ℕ → Machine S → Result Report Denial → Machine S → Type 0
 Runs steps says n c r d =
-    WhereGranted (check_run n c.observed.report) c r d (Cycles steps says n c d × (r ≡ Ok d.observed.report))
+    WhereGranted (check_run n c.observation.report) c r d (Cycles steps says n c d × (r ≡ Ok d.observation.report))
 
 -- lines: bits 0 to 5 are IT0 to IT5, bit 6 is RST
 abbrev pub lines_reply : ℕ → Result (Unit {0}) Denial

@@ -20,7 +20,7 @@ machine_of_parts h p pile =
     record {
       processor = record { state = chip_state p.chip; lines = p.lines };
       pile = pile;
-      observed = record { report = p.counts.report; history = h };
+      observation = record { report = p.counts.report; history = h };
     }
 
 -- a core, so seen

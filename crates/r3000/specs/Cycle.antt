@@ -4,7 +4,7 @@ use Rattle.bus.specs.declared.request.Answer.{Answer}
 use Rattle.bus.specs.declared.request.Answer.TheVariants.{Wait, BusError, Done}
 use Rattle.bus.specs.declared.request.Request.{Request}
 use Rattle.microprogram.specs.Cycle.{State, request_of, row_output, state_after}
-use Rattle.r3000.specs.Machine.{Machine, current_row, observed_after}
+use Rattle.r3000.specs.Machine.{Machine, current_row, observation_after}
 
 -- how a pile goes on in a cycle: it is asked exactly where the cycle makes a request
 abbrev pub Asks : {S : Type 0} → (S → Request → Answer → S → Type 0) → S → Option Request → Option Answer → S → Type 0
@@ -31,7 +31,7 @@ core_after_cycle frozen a pile c =
                 (state_after (current_row s) c.processor.lines (row_output (current_row s) s) a s);
           };
       pile = pile;
-      observed = observed_after c.processor frozen c.observed;
+      observation = observation_after c.processor frozen c.observation;
     }
 
 -- the request that a core makes in its next cycle

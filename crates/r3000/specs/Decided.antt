@@ -11,7 +11,11 @@ use Rattle.r3000.specs.Promise.{Upholds}
 -- a core with what its pile means in the pile's place, and with no history: nothing that a core shows tells it
 abbrev pub core_meaning : {S : Type 0} → (S → Meaning) → Machine S → Machine Meaning
 core_meaning means c =
-    record { processor = c.processor; pile = means c.pile; observed = record c.observed { history = no_history } }
+    record {
+      processor = c.processor;
+      pile = means c.pile;
+      observation = record c.observation { history = no_history };
+    }
 
 -- what a memory answers in a cycle: it is asked exactly where the cycle makes a request
 abbrev pub cycle_answer : Meaning → Option Request → Option Answer

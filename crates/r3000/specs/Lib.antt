@@ -1,4 +1,4 @@
-pub mod CallList
+pub mod Perform
 pub mod Calls
 pub mod Core
 pub mod Counts

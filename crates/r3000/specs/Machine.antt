@@ -1,6 +1,6 @@
 -- A core, as the rules see it. Assumes nothing.
 use Rattle.std.specs.Prelude.{ℕ, ◌+◌, Bool, cond, not, ◌&&◌, List, [], ◌∷◌}
-use Rattle.microprogram.specs.Cycle.{State, ends_path, power_up}
+use Rattle.microprogram.specs.Cycle.{State, ends_path, state_at_power_up}
 use Rattle.r3000.specs.Counts.{report_after, zero_counts}
 use Rattle.r3000.specs.declared.report.Report.{Report}
 use Rattle.rows.specs.Rows.{row_at}
@@ -16,28 +16,28 @@ abbrev pub no_history : History
 no_history = record { boundary_lines = []; since = 0 }
 
 -- a processor: its state, which cycles change, and the lines as they stand now
-pub record Cpu : Type 0 where
+pub record ProcessorState : Type 0 where
   pub state : State
   pub lines : ℕ
 
 -- what is observed of a core: the counts that it reports, and its history, which no code holds
-pub record Observed : Type 0 where
+pub record Observation : Type 0 where
   pub report : Report
   pub history : History
 
 -- a core on a pile: the processor, the pile, and what is observed
 pub record Machine (S : Type 0) : Type 0 where
-  pub processor : Cpu
+  pub processor : ProcessorState
   pub pile : S
-  pub observed : Observed
+  pub observation : Observation
 
 -- power-up on a pile
 abbrev pub core_at_power_up : {S : Type 0} → S → Machine S
 core_at_power_up pile =
     record {
-      processor = record { state = power_up; lines = 0 };
+      processor = record { state = state_at_power_up; lines = 0 };
       pile = pile;
-      observed = record { report = zero_counts; history = no_history };
+      observation = record { report = zero_counts; history = no_history };
     }
 
 -- the row at hand
@@ -49,14 +49,14 @@ abbrev pub is_boundary : State → Bool → Bool
 is_boundary c frozen = not frozen && ends_path (current_row c).sequencing
 
 -- the history after a cycle: a boundary keeps the lines that stand, and the granted cycles are counted anew
-abbrev pub history_after : Cpu → Bool → History → History
+abbrev pub history_after : ProcessorState → Bool → History → History
 history_after p frozen h =
     cond (is_boundary p.state frozen) (record { boundary_lines = p.lines ∷ h.boundary_lines; since = 0 })
     (record h { since = h.since + 1 })
 
 -- what is observed after a cycle
-abbrev pub observed_after : Cpu → Bool → Observed → Observed
-observed_after p frozen o =
+abbrev pub observation_after : ProcessorState → Bool → Observation → Observation
+observation_after p frozen o =
     record {
       report = report_after frozen (ends_path (current_row p.state).sequencing) o.report;
       history = history_after p frozen o.history;

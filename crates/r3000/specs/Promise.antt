@@ -31,7 +31,7 @@ total_length m (l ∷ ls) = total_length m ls + length_of (book_after m ls) (boo
 -- registers without DT, the lines at the last boundary, ledger, and the bytes at every address are the book's
 pub record Agrees (b : Book) (s : State) (m : Meaning) : Type 0 where
   pub regs : s.regs ≡ b.regs
-  pub lines : s.sampled ≡ b.sampled
+  pub sampled : s.sampled ≡ b.sampled
   pub ledger : s.ledger ≡ b.ledger
   pub bytes : (address : ℕ) → m.byte address ≡ b.bytes address
 
@@ -47,16 +47,16 @@ IsUp s f = s.flag ≡ Some f
 -- the promise, of a core that began on a pile
 pub record Promise {S : Type 0} (means : S → Meaning) (start : S) (c : Machine S) : Type 0 where
   -- the history has a step for each boundary that is reported
-  pub boundaries : length c.observed.history.boundary_lines ≡ c.observed.report.boundaries
+  pub boundaries : length c.observation.history.boundary_lines ≡ c.observation.report.boundaries
   -- agreement: at each boundary, where the place is 0
-  pub agreement : c.observed.report.place ≡ 0
-      → Agrees (book_after (means start) c.observed.history.boundary_lines) c.processor.state (means c.pile)
+  pub agreement : c.observation.report.place ≡ 0
+      → Agrees (book_after (means start) c.observation.history.boundary_lines) c.processor.state (means c.pile)
   -- sum
-  pub sum : c.observed.report.cycles
-      ≡ c.observed.report.frozen + total_length (means start) c.observed.history.boundary_lines
-      + c.observed.report.place
+  pub sum : c.observation.report.cycles
+      ≡ c.observation.report.frozen + total_length (means start) c.observation.history.boundary_lines
+      + c.observation.report.place
   -- promptness: the latest granted cycle after a boundary, or after power-up, is not made without a boundary
-  pub promptness : c.observed.history.since < latest_boundary (means start)
+  pub promptness : c.observation.history.since < latest_boundary (means start)
   -- register 0 is zero, and at most one flag is up (of which the flag's type leaves no more)
   pub register_0 : reg c.processor.state.regs 0 ≡ 0
   pub one_flag : (f g : Fault) → IsUp c.processor.state f → IsUp c.processor.state g → f ≡ g

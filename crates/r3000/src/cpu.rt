@@ -12,7 +12,7 @@ use super::processor::Processor;
 use super::promise::promise;
 use super::report::{Clocked, Report};
 use bus::memory::Bus;
-use machine::interrupt::read_cr;
+use machine::interrupt::cr_with_lines;
 use machine::ledger::Entry;
 
 /// A processor on a pile, which is its own from power-up on.
@@ -107,7 +107,7 @@ impl<B: Bus> Core<B> {
             registers.hi,
             registers.lo,
             registers.sr,
-            read_cr(chip.sampled, registers.cr),
+            cr_with_lines(chip.sampled, registers.cr),
             registers.epc,
             registers.bar,
             registers.ad,

@@ -1,7 +1,7 @@
 //! Why a call is denied.
 
 ghost use Rattle.std.specs.Prelude.{◌≡◌};
-ghost use Rattle.r3000.specs.Denial.{number_of};
+ghost use Rattle.r3000.specs.Denial.{denial_number};
 
 /// A denied call alters nothing.
 #[derive(Clone, Copy, PartialEq, Eq)]
@@ -17,7 +17,7 @@ pub enum Denial {
 impl Denial {
     /// The number by which the denial is known.
     pub fn number(self) -> u8
-        ensures { result ≡ number_of self }
+        ensures { result ≡ denial_number self }
     {
         self as u8
     }

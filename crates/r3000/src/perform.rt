@@ -3,7 +3,7 @@
 ghost use Rattle.std.specs.Prelude.{◌≡◌};
 ghost use Rattle.r3000.specs.Core.{machine_of};
 ghost use Rattle.r3000.specs.Machine.{History};
-ghost use Rattle.r3000.specs.CallList.{MakesCall, Performs};
+ghost use Rattle.r3000.specs.Perform.{MakesCall, Performs};
 ghost use Rattle.r3000.specs.Promise.{Happens, Upholds};
 
 use super::call::{Call, Exchange, Reply};

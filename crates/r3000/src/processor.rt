@@ -1,7 +1,7 @@
 //! A processor and its cycle.
 
 ghost use Rattle.std.specs.Prelude.{◌≡◌, ◌<◌};
-ghost use Rattle.microprogram.specs.Cycle.{chip_state, power_up};
+ghost use Rattle.microprogram.specs.Cycle.{chip_state, state_at_power_up};
 ghost use Rattle.r3000.specs.Core.{machine_of_parts};
 ghost use Rattle.r3000.specs.Counts.{zero_counts};
 ghost use Rattle.r3000.specs.Cycle.{Asks, Cycle, is_wait};
@@ -27,7 +27,7 @@ pub struct Processor {
 impl Processor {
     /// Power-up: registers, lines, ledger and counts zero, no flag, row 0.
     pub(crate) fn new() -> Processor
-        ensures state { chip_state result.chip ≡ power_up }
+        ensures state { chip_state result.chip ≡ state_at_power_up }
         ensures lines { result.lines ≡ 0 }
         ensures report { result.counts.report ≡ zero_counts }
     {
@@ -50,7 +50,7 @@ impl Processor {
         let (res, ..) = work;
         let request = self.chip.request(row.transfer, res);
         let answer = ask(pile, request);
-        let frozen = freezes(answer);
+        let frozen = is_wait(answer);
         if !frozen {
             self.chip.advance(row, self.lines, work, answer);
         }
@@ -67,7 +67,7 @@ fn ask<B: Bus>(pile: &mut B, request: Option<Request>) -> Option<Answer>
 }
 
 /// A cycle is frozen exactly when the pile answers wait.
-fn freezes(answer: Option<Answer>) -> bool
+fn is_wait(answer: Option<Answer>) -> bool
     ensures { result ≡ is_wait answer }
 {
     answer == Some(Answer::Wait)

@@ -7,8 +7,7 @@ use bus::memory::Bus;
 use microprogram::bounds::longest_path;
 use paths::law::steps_are_paths;
 
-/// Everything that is reached on any pile keeps the promise. This is a proof and no code: who calls it has its
-/// contract.
+/// A theorem: everything that is reached on any pile keeps the promise. Who calls it has its contract.
 pub fn promise<B: Bus>()
     ensures { (start : B) → AllKeepPromise B.Bus.means B.Bus.steps start }
 {

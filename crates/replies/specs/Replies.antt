@@ -4,7 +4,7 @@ use Rattle.bus.specs.Meaning.{Meaning}
 use Rattle.jobs.specs.Coming as job
 use Rattle.jobs.specs.Decided.{replies_to_job}
 use Rattle.jobs.specs.Limits.{max_job}
-use Rattle.text.specs.Written.{reply_text}
+use Rattle.text.specs.Writing.{reply_text}
 use Rattle.text.specs.declared.reply.Reply.{Reply}
 use Rattle.pile.specs.Decided.{meaning_after}
 use Rattle.pile.specs.Job.{high_length, job_pile, low_length, pile_means}

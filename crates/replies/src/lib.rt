@@ -10,7 +10,7 @@ pub mod example;
 
 use jobs::job::Job;
 use jobs::limits::MAX_JOB;
-use pile::job::{Memories, Pile, goes_on};
+use pile::job::{Memories, Pile, pile_is_decided};
 use text::reply::Reply;
 
 /// A job at work on the pile of jobs: an iterator over the replies that are still to come. Nothing is allocated.
@@ -18,7 +18,7 @@ use text::reply::Reply;
 pub struct Replies<'a>(Job<'a, Pile<'a>>);
 
 impl<'a> Replies<'a> {
-    /// The replies to a job. The memories are zeroed, and lent to its pile.
+    /// The replies to a job. The memories are zeroed, and its pile borrows them.
     pub fn new(memories: &'a mut Memories, job: &'a [u8]) -> Replies<'a>
         ensures { replies_to_come result ≡ replies_to job.now }
     {
@@ -35,13 +35,13 @@ impl<'a> Iterator for Replies<'a> {
     ghost remaining = { item_count replies_to_come };
 
     fn next(&mut self) -> Option<Reply> {
-        goes_on();
+        pile_is_decided();
         self.0.next()
     }
 }
 
 /// How many bytes of a job tell its replies: one more than a job may have tells that it is too long.
-pub fn enough() -> u64
+pub fn enough_bytes() -> u64
     ensures value { result ≡ enough_bytes }
     ensures tells { (job : List ℕ) → replies_to (take result job) ≡ replies_to job }
 {

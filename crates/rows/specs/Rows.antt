@@ -198,13 +198,13 @@ listing =
     ∷ []
 
 -- the rows from an address on, so many of them, with the entries that are left
-unfoldable pub laid_out : ℕ → ℕ → List Entry → List Fields
-laid_out zero n es = []
-laid_out (suc k) n [] = empty_fields ∷ laid_out k (suc n) []
-laid_out (suc k) n (c ∷ es) =
+unfoldable pub rows_from : ℕ → ℕ → List Entry → List Fields
+rows_from zero n es = []
+rows_from (suc k) n [] = empty_fields ∷ rows_from k (suc n) []
+rows_from (suc k) n (c ∷ es) =
     elim (n == c.address) [
-      | true ↦ c.fields ∷ laid_out k (suc n) es
-      | false ↦ empty_fields ∷ laid_out k (suc n) (c ∷ es)
+      | true ↦ c.fields ∷ rows_from k (suc n) es
+      | false ↦ empty_fields ∷ rows_from k (suc n) (c ∷ es)
     ]
 
 -- how many rows there are
@@ -213,8 +213,8 @@ row_count = 1024
 
 -- all of them
 unfoldable pub rows : List Fields
-unfolding laid_out listing
-rows = laid_out row_count 0 listing
+unfolding rows_from listing
+rows = rows_from row_count 0 listing
 
 abbrev pub row_of_fields : Fields → Row
 row_of_fields f =

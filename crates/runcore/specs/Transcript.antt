@@ -2,87 +2,89 @@
 use Rattle.std.specs.Prelude.{ℕ, ◌-◌, true, cond, List, [], ◌∷◌, ◌++◌, codes, length, replicate, Ok, Err, Result, ◌==◌}
 use Rattle.std.specs.Fmt.{decimal, digits}
 use Rattle.bus.specs.declared.settle.BusFault.{BusFault}
-use Rattle.r3000.specs.Denial.{number_of}
+use Rattle.r3000.specs.Denial.{denial_number}
 use Rattle.r3000.specs.declared.call.Call.{Call}
 use Rattle.r3000.specs.declared.call.Call.TheVariants as call
 use Rattle.r3000.specs.declared.call.Reply.{Reply}
 use Rattle.r3000.specs.declared.call.Reply.TheVariants as reply
 use Rattle.r3000.specs.declared.denial.Denial.{Denial}
 use Rattle.r3000.specs.declared.report.Report.{Report}
-use Rattle.runcore.specs.declared.transcript.Changed.{Changed}
-use Rattle.runcore.specs.declared.transcript.Loaded.{Loaded}
-use Rattle.runcore.specs.declared.transcript.Made.{Made}
+use Rattle.runcore.specs.declared.transcript.Change.{Change}
+use Rattle.runcore.specs.declared.transcript.Load.{Load}
+use Rattle.runcore.specs.declared.transcript.AnsweredCall.{AnsweredCall}
 
 -- pieces of text, one after another
-abbrev pub joined : List (List ℕ) → List ℕ
-joined [] = []
-joined (t ∷ []) = t
-joined (t ∷ (u ∷ us)) = t ++ joined (u ∷ us)
+abbrev pub concat : List (List ℕ) → List ℕ
+concat [] = []
+concat (t ∷ []) = t
+concat (t ∷ (u ∷ us)) = t ++ concat (u ∷ us)
 
 -- a number in hexadecimal, with zeros before it up to so many digits
 abbrev pub hexadecimal : ℕ → ℕ → List ℕ
 hexadecimal width n = replicate (width - length (digits 16 true n)) 48 ++ digits 16 true n
 
 -- a byte
-abbrev pub byte : ℕ → List ℕ
-byte n = hexadecimal 2 n
+abbrev pub byte_text : ℕ → List ℕ
+byte_text n = hexadecimal 2 n
 
 -- a word, or an address
-abbrev pub word : ℕ → List ℕ
-word n = hexadecimal 8 n
+abbrev pub word_text : ℕ → List ℕ
+word_text n = hexadecimal 8 n
 
 -- how a load ended, after so many waits
-abbrev pub ended : ℕ → Result ℕ BusFault → List ℕ
-ended waits (Ok read) = joined (codes ": waits " ∷ decimal waits ∷ [])
-ended waits (Err fault) = codes ": refused"
+abbrev pub load_end_text : ℕ → Result ℕ BusFault → List ℕ
+load_end_text waits (Ok read) = concat (codes ": waits " ∷ decimal waits ∷ [])
+load_end_text waits (Err fault) = codes ": refused"
 
 -- a word that was put into the pile: its address, the word, and how that ended
-abbrev pub loaded : Loaded → List ℕ
-loaded l =
-    joined (codes "load " ∷ word l.address ∷ codes " " ∷ word l.word ∷ ended l.settled.waits l.settled.outcome ∷ [])
+abbrev pub load_text : Load → List ℕ
+load_text l =
+    concat
+    (codes "load " ∷ word_text l.address ∷ codes " " ∷ word_text l.word
+    ∷ load_end_text l.settled.waits l.settled.outcome ∷ [])
 
 -- a call: lines and addresses in hexadecimal, numbers in decimal
-abbrev pub asked : Call → List ℕ
-asked call.Clock = codes "clock"
-asked (call.Run count) = joined (codes "run " ∷ decimal count ∷ [])
-asked (call.Lines lines) = joined (codes "lines " ∷ byte lines ∷ [])
-asked (call.Register number) = joined (codes "register " ∷ decimal number ∷ [])
-asked call.Snapshot = codes "snapshot"
-asked (call.Ledger code) = joined (codes "ledger " ∷ decimal code ∷ [])
-asked (call.Look address) = joined (codes "look " ∷ word address ∷ [])
+abbrev pub call_text : Call → List ℕ
+call_text call.Clock = codes "clock"
+call_text (call.Run count) = concat (codes "run " ∷ decimal count ∷ [])
+call_text (call.Lines lines) = concat (codes "lines " ∷ byte_text lines ∷ [])
+call_text (call.Register number) = concat (codes "register " ∷ decimal number ∷ [])
+call_text call.Snapshot = codes "snapshot"
+call_text (call.Ledger code) = concat (codes "ledger " ∷ decimal code ∷ [])
+call_text (call.Look address) = concat (codes "look " ∷ word_text address ∷ [])
 
 -- a report
-abbrev pub counted : Report → List ℕ
-counted r =
-    joined
+abbrev pub report_text : Report → List ℕ
+report_text r =
+    concat
     (codes "cycles " ∷ decimal r.cycles ∷ codes ", frozen " ∷ decimal r.frozen ∷ codes ", boundaries "
     ∷ decimal r.boundaries ∷ codes ", place " ∷ decimal r.place ∷ [])
 
 -- a reply, or the number of a denial
-abbrev pub answered : Result Reply Denial → List ℕ
-answered (Ok (reply.Clock c)) =
-    joined (cond c.frozen (codes "frozen; ") (codes "not frozen; ") ∷ counted c.report ∷ [])
-answered (Ok (reply.Run report)) = counted report
-answered (Ok reply.Lines) = codes "set"
-answered (Ok (reply.Register w)) = word w
-answered (Ok (reply.Snapshot registers)) = codes "taken"
-answered (Ok (reply.Ledger entry)) =
-    joined (codes "count " ∷ decimal entry.count ∷ codes ", last EPC " ∷ word entry.epc ∷ [])
-answered (Ok (reply.Look b)) = byte b
-answered (Err denial) = joined (codes "denied " ∷ decimal (number_of denial) ∷ [])
+abbrev pub call_reply_text : Result Reply Denial → List ℕ
+call_reply_text (Ok (reply.Clock c)) =
+    concat (cond c.frozen (codes "frozen; ") (codes "not frozen; ") ∷ report_text c.report ∷ [])
+call_reply_text (Ok (reply.Run report)) = report_text report
+call_reply_text (Ok reply.Lines) = codes "set"
+call_reply_text (Ok (reply.Register w)) = word_text w
+call_reply_text (Ok (reply.Snapshot registers)) = codes "taken"
+call_reply_text (Ok (reply.Ledger entry)) =
+    concat (codes "count " ∷ decimal entry.count ∷ codes ", last EPC " ∷ word_text entry.epc ∷ [])
+call_reply_text (Ok (reply.Look b)) = byte_text b
+call_reply_text (Err denial) = concat (codes "denied " ∷ decimal (denial_number denial) ∷ [])
 
 -- a call and its reply
-abbrev pub made : Made → List ℕ
-made m = joined (asked m.call ∷ codes ": " ∷ answered m.reply ∷ [])
+abbrev pub answered_call_text : AnsweredCall → List ℕ
+answered_call_text m = concat (call_text m.call ∷ codes ": " ∷ call_reply_text m.reply ∷ [])
 
 -- what a table has under a number, or else another text
-abbrev pub under : ℕ → List (ℕ × List ℕ) → List ℕ → List ℕ
-under n [] other = other
-under n (entry ∷ entries) other = cond (n == entry.0) entry.1 (under n entries other)
+abbrev pub table_text : ℕ → List (ℕ × List ℕ) → List ℕ → List ℕ
+table_text n [] other = other
+table_text n (entry ∷ entries) other = cond (n == entry.0) entry.1 (table_text n entries other)
 
 -- the names of the registers that are not general ones
-abbrev pub special : List (ℕ × List ℕ)
-special =
+abbrev pub special_register_names : List (ℕ × List ℕ)
+special_register_names =
     (32, codes "PC")
     ∷ (33, codes "HI")
     ∷ (34, codes "LO")
@@ -96,9 +98,9 @@ special =
     ∷ []
 
 -- a register's name: a general one is called by its number
-abbrev pub named : ℕ → List ℕ
-named n = under n special (joined (codes "$" ∷ decimal n ∷ []))
+abbrev pub register_name : ℕ → List ℕ
+register_name n = table_text n special_register_names (concat (codes "$" ∷ decimal n ∷ []))
 
 -- a register that a call changed, and its new word
-abbrev pub changed : Changed → List ℕ
-changed c = joined (codes "    " ∷ named c.register ∷ codes " = " ∷ word c.word ∷ [])
+abbrev pub change_text : Change → List ℕ
+change_text c = concat (codes "    " ∷ register_name c.register ∷ codes " = " ∷ word_text c.word ∷ [])

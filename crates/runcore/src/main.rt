@@ -16,18 +16,18 @@ use bus::settle::settle;
 use firmware::Section;
 use pile::job::Memories;
 use r3000::perform::perform;
-use transcript::Loaded;
+use transcript::Load;
 
 /// Writes the words of a section into the pile, waiting out each.
 fn load<B: Bus>(rt: &impl Print, pile: &mut B, section: Section<'_>) -> anyhow::Result<()> {
     for (address, word) in (section.base..).step_by(4).zip(section.words) {
         let settled = settle(pile, Request::write(Width::Word, address, *word));
-        let loaded = Loaded {
+        let line = Load {
             address,
             word: *word,
             settled,
         };
-        println!(rt; "{loaded}")?;
+        println!(rt; "{line}")?;
     }
     Ok(())
 }
@@ -41,7 +41,7 @@ fn run(rt: &(impl Print + AllocGlobal)) -> anyhow::Result<()> {
     load(rt, &mut pile, firmware::BEYOND)?;
     let mut exchanges = script::exchanges(rt.alloc()).context("no room for the calls")?;
     perform(pile, &mut exchanges);
-    transcript::performed(rt, &exchanges)
+    transcript::print_calls(rt, &exchanges)
 }
 
 fn main(rt: HostRuntime) -> anyhow::Result<()> {

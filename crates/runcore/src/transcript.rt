@@ -16,9 +16,9 @@ use std::fmt;
 struct Byte(u8);
 
 impl fmt::Display for Byte {
-    ghost use Rattle.runcore.specs.Transcript.{byte};
+    ghost use Rattle.runcore.specs.Transcript.{byte_text};
 
-    ghost output = { λ b. Some (byte b.0) };
+    ghost output = { λ b. Some (byte_text b.0) };
 
     fn fmt<W: fmt::Write>(&self, f: &mut fmt::Formatter<W>) -> fmt::Result {
         write!(f, "{:02X}", self.0)
@@ -30,9 +30,9 @@ impl fmt::Display for Byte {
 struct Word(u32);
 
 impl fmt::Display for Word {
-    ghost use Rattle.runcore.specs.Transcript.{word};
+    ghost use Rattle.runcore.specs.Transcript.{word_text};
 
-    ghost output = { λ w. Some (word w.0) };
+    ghost output = { λ w. Some (word_text w.0) };
 
     fn fmt<W: fmt::Write>(&self, f: &mut fmt::Formatter<W>) -> fmt::Result {
         write!(f, "{:08X}", self.0)
@@ -41,16 +41,16 @@ impl fmt::Display for Word {
 
 /// A word that was put into the pile, as it is printed.
 #[derive(Clone, Copy)]
-pub(crate) struct Loaded {
+pub(crate) struct Load {
     pub(crate) address: u32,
     pub(crate) word: u32,
     pub(crate) settled: Settled,
 }
 
-impl fmt::Display for Loaded {
-    ghost use Rattle.runcore.specs.Transcript.{loaded};
+impl fmt::Display for Load {
+    ghost use Rattle.runcore.specs.Transcript.{load_text};
 
-    ghost output = { λ l. Some (loaded l) };
+    ghost output = { λ l. Some (load_text l) };
 
     fn fmt<W: fmt::Write>(&self, f: &mut fmt::Formatter<W>) -> fmt::Result {
         let (address, word, waits) = (Word(self.address), Word(self.word), self.settled.waits);
@@ -63,12 +63,12 @@ impl fmt::Display for Loaded {
 
 /// A call as it is printed.
 #[derive(Clone, Copy)]
-struct Asked(Call);
+struct CallText(Call);
 
-impl fmt::Display for Asked {
-    ghost use Rattle.runcore.specs.Transcript.{asked};
+impl fmt::Display for CallText {
+    ghost use Rattle.runcore.specs.Transcript.{call_text};
 
-    ghost output = { λ a. Some (asked a.0) };
+    ghost output = { λ a. Some (call_text a.0) };
 
     fn fmt<W: fmt::Write>(&self, f: &mut fmt::Formatter<W>) -> fmt::Result {
         match self.0 {
@@ -85,12 +85,12 @@ impl fmt::Display for Asked {
 
 /// A report as it is printed.
 #[derive(Clone, Copy)]
-struct Counted(Report);
+struct ReportText(Report);
 
-impl fmt::Display for Counted {
-    ghost use Rattle.runcore.specs.Transcript.{counted};
+impl fmt::Display for ReportText {
+    ghost use Rattle.runcore.specs.Transcript.{report_text};
 
-    ghost output = { λ c. Some (counted c.0) };
+    ghost output = { λ c. Some (report_text c.0) };
 
     fn fmt<W: fmt::Write>(&self, f: &mut fmt::Formatter<W>) -> fmt::Result {
         let Report {
@@ -108,20 +108,20 @@ impl fmt::Display for Counted {
 
 /// A reply as it is printed.
 #[derive(Clone, Copy)]
-struct Answered(Result<Reply, Denial>);
+struct ReplyText(Result<Reply, Denial>);
 
-impl fmt::Display for Answered {
-    ghost use Rattle.runcore.specs.Transcript.{answered};
+impl fmt::Display for ReplyText {
+    ghost use Rattle.runcore.specs.Transcript.{call_reply_text};
 
-    ghost output = { λ a. Some (answered a.0) };
+    ghost output = { λ a. Some (call_reply_text a.0) };
 
     fn fmt<W: fmt::Write>(&self, f: &mut fmt::Formatter<W>) -> fmt::Result {
         match self.0 {
             Ok(Reply::Clock(clocked)) if clocked.frozen => {
-                write!(f, "frozen; {}", Counted(clocked.report))
+                write!(f, "frozen; {}", ReportText(clocked.report))
             }
-            Ok(Reply::Clock(clocked)) => write!(f, "not frozen; {}", Counted(clocked.report)),
-            Ok(Reply::Run(report)) => write!(f, "{}", Counted(report)),
+            Ok(Reply::Clock(clocked)) => write!(f, "not frozen; {}", ReportText(clocked.report)),
+            Ok(Reply::Run(report)) => write!(f, "{}", ReportText(report)),
             Ok(Reply::Lines) => f.write_str("set"),
             Ok(Reply::Register(word)) => write!(f, "{}", Word(word)),
             Ok(Reply::Snapshot(_)) => f.write_str("taken"),
@@ -136,29 +136,29 @@ impl fmt::Display for Answered {
 
 /// A call and its reply, as they are printed.
 #[derive(Clone, Copy)]
-struct Made {
+struct AnsweredCall {
     call: Call,
     reply: Result<Reply, Denial>,
 }
 
-impl fmt::Display for Made {
-    ghost use Rattle.runcore.specs.Transcript.{made};
+impl fmt::Display for AnsweredCall {
+    ghost use Rattle.runcore.specs.Transcript.{answered_call_text};
 
-    ghost output = { λ m. Some (made m) };
+    ghost output = { λ m. Some (answered_call_text m) };
 
     fn fmt<W: fmt::Write>(&self, f: &mut fmt::Formatter<W>) -> fmt::Result {
-        write!(f, "{}: {}", Asked(self.call), Answered(self.reply))
+        write!(f, "{}: {}", CallText(self.call), ReplyText(self.reply))
     }
 }
 
 /// A register's name; a general one is called by its number.
 #[derive(Clone, Copy)]
-struct Name(usize);
+struct RegisterName(usize);
 
-impl fmt::Display for Name {
-    ghost use Rattle.runcore.specs.Transcript.{named};
+impl fmt::Display for RegisterName {
+    ghost use Rattle.runcore.specs.Transcript.{register_name};
 
-    ghost output = { λ n. Some (named n.0) };
+    ghost output = { λ n. Some (register_name n.0) };
 
     fn fmt<W: fmt::Write>(&self, f: &mut fmt::Formatter<W>) -> fmt::Result {
         match self.0 {
@@ -179,23 +179,28 @@ impl fmt::Display for Name {
 
 /// A register that a call changed, and its new word, as they are printed.
 #[derive(Clone, Copy)]
-struct Changed {
+struct Change {
     register: usize,
     word: u32,
 }
 
-impl fmt::Display for Changed {
-    ghost use Rattle.runcore.specs.Transcript.{changed};
+impl fmt::Display for Change {
+    ghost use Rattle.runcore.specs.Transcript.{change_text};
 
-    ghost output = { λ c. Some (changed c) };
+    ghost output = { λ c. Some (change_text c) };
 
     fn fmt<W: fmt::Write>(&self, f: &mut fmt::Formatter<W>) -> fmt::Result {
-        write!(f, "    {} = {}", Name(self.register), Word(self.word))
+        write!(
+            f,
+            "    {} = {}",
+            RegisterName(self.register),
+            Word(self.word)
+        )
     }
 }
 
 /// The registers that differ between two snapshots.
-fn compare(
+fn print_changes(
     rt: &impl Print,
     before: &[u32; REGISTERS],
     after: &[u32; REGISTERS],
@@ -203,21 +208,21 @@ fn compare(
     for (register, (old, new)) in before.iter().zip(after).enumerate() {
         if old != new {
             let word = *new;
-            println!(rt; "{}", Changed { register, word })?;
+            println!(rt; "{}", Change { register, word })?;
         }
     }
     Ok(())
 }
 
 /// Every call with its reply. The first snapshot is taken; each later one shows the registers that changed since.
-pub(crate) fn performed(rt: &impl Print, exchanges: &[Exchange]) -> anyhow::Result<()> {
+pub(crate) fn print_calls(rt: &impl Print, exchanges: &[Exchange]) -> anyhow::Result<()> {
     let mut before = None;
     for exchange in exchanges {
         let call = exchange.call;
         let reply = exchange.reply.context("a call was not made")?;
         match (before, reply) {
-            (Some(before), Ok(Reply::Snapshot(after))) => compare(rt, &before, &after)?,
-            _ => println!(rt; "{}", Made { call, reply })?,
+            (Some(before), Ok(Reply::Snapshot(after))) => print_changes(rt, &before, &after)?,
+            _ => println!(rt; "{}", AnsweredCall { call, reply })?,
         }
         if let Ok(Reply::Snapshot(after)) = reply {
             before = Some(after);

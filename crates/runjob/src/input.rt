@@ -7,7 +7,7 @@ ghost use Rattle.runjob.specs.Run.{StopsReading, TakesJob};
 
 use super::RETRIES;
 use super::failure::Failure;
-use replies::enough;
+use replies::enough_bytes;
 use std::alloc::Global;
 use std::io;
 use std::io::{ErrorKind, Read};
@@ -37,7 +37,7 @@ pub fn read_job<R: Read>(heap: Global, reader: &mut R) -> Result<Vec<u8>, Failur
 {
     let mut job = Vec::new(heap);
     let mut chunk = [0u8; CHUNK];
-    let most = enough() as usize;
+    let most = enough_bytes() as usize;
     while job.len() < most {
         let room = CHUNK.min(most - job.len());
         match read_some(reader, &mut chunk[..room]) {

@@ -3,7 +3,7 @@
 ghost use Rattle.std.specs.Io.{WritesAtMost};
 ghost use Rattle.std.specs.Io.KnownBytes.{WriteAppends};
 ghost use Rattle.replies.specs.Replies.{text_of_replies, replies_to_come};
-ghost use Rattle.runjob.specs.Run.{Writing};
+ghost use Rattle.runjob.specs.Run.{WritesBytes};
 
 use super::RETRIES;
 use replies::Replies;
@@ -27,7 +27,7 @@ fn write_some<W: Write>(writer: &mut W, bytes: &[u8]) -> io::Result<usize>
 
 /// Writes all bytes; where that fails, the first of them may have been written.
 fn write_whole<W: Write>(writer: &mut W, bytes: &[u8]) -> io::Result<()>
-    ensures { Writing (W.contents writer.old) (W.contents writer.new) bytes.now result }
+    ensures { WritesBytes (W.contents writer.old) (W.contents writer.new) bytes.now result }
 {
     let mut rest = bytes;
     while !rest.is_empty() {
@@ -42,7 +42,7 @@ fn write_whole<W: Write>(writer: &mut W, bytes: &[u8]) -> io::Result<()>
 
 /// Writes each reply as it comes.
 pub fn write_replies<W: Write>(writer: &mut W, replies: &mut Replies<'_>) -> io::Result<()>
-    ensures { Writing (W.contents writer.old) (W.contents writer.new)
+    ensures { WritesBytes (W.contents writer.old) (W.contents writer.new)
         (text_of_replies (replies_to_come replies.old)) result }
 {
     while let Some(reply) = replies.next() {

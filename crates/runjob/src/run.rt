@@ -1,6 +1,6 @@
 //! Running a job.
 
-ghost use Rattle.runjob.specs.Run.{Running};
+ghost use Rattle.runjob.specs.Run.{RunDoes};
 
 use super::failure::Failure;
 use super::input::read_job;
@@ -12,7 +12,7 @@ use std::io::{Read, Write};
 
 /// Reads a job, and writes the replies to it.
 pub fn run<R: Read, W: Write>(heap: Global, reader: &mut R, writer: &mut W) -> Result<(), Failure>
-    ensures { Running (R.remaining reader.old) (R.remaining reader.new)
+    ensures { RunDoes (R.remaining reader.old) (R.remaining reader.new)
         (W.contents writer.old) (W.contents writer.new) result }
 {
     let job = read_job(heap, reader)?;

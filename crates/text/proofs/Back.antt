@@ -8,11 +8,11 @@ use lib.Arith.{mod-mul}
 use Rattle.std.proofs.lemmas.List.Elements.{All-cons}
 use Rattle.std.proofs.lemmas.List.Splits.{slice_split_at, slice_split_none}
 use Rattle.std.specs.List.{All}
-use Rattle.text.proofs.Parted.{digits-length}
+use Rattle.text.proofs.Separated.{digits-length}
 use Rattle.text.specs.Digit.{byte_of}
-use Rattle.text.specs.Line.{digit_value, fields_of, value_of}
+use Rattle.text.specs.Reading.{digit_value, fields_of, value_of}
 use Rattle.text.specs.Reread.{RoundTrip, reply_of_fields}
-use Rattle.text.specs.Written.{Field, digits, separated_fields}
+use Rattle.text.specs.Writing.{Field, digits, separated_fields}
 use Rattle.text.specs.declared.reply.Reply.TheVariants.{Loaded, Started, Set, Ran, Shown, Denied}
 
 -- a digit's byte is no space, and has the digit's value

@@ -1,4 +1,4 @@
 mod Back
 mod Fields
 mod Numbers
-mod Parted
+mod Separated

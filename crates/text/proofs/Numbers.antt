@@ -5,7 +5,7 @@ use native.Mathlib.Nat.{pow-succ'}
 use Rattle.std.proofs.Math.Nat.{add-mul, mul-le-mul_right, mul-suc, one-le-pow, suc-mul}
 use Rattle.std.proofs.lemmas.Bool.Decides.{nat_tests}
 use Rattle.std.specs.List.{fold}
-use Rattle.text.specs.Line.{digit_value, value_of}
+use Rattle.text.specs.Reading.{digit_value, value_of}
 
 -- a digit behind a value
 abbrev pub appended : ℕ → ℕ → ℕ

@@ -4,6 +4,6 @@ use Rattle.text.specs.declared.fault.LineFault.{LineFault}
 use Rattle.text.specs.declared.fault.LineFault.TheVariants.{Form, Unknown}
 
 -- form 2, unknown kind 3
-abbrev pub number_of : LineFault → ℕ
-number_of Form = 2
-number_of Unknown = 3
+abbrev pub denial_number : LineFault → ℕ
+denial_number Form = 2
+denial_number Unknown = 3

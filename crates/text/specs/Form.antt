@@ -4,12 +4,12 @@ use Rattle.text.specs.declared.order.Kind.{Kind}
 use Rattle.text.specs.declared.order.Kind.TheVariants.{Load, Start, SetLines, Run, Show}
 
 -- the codes of the kinds of line, with which their replies begin too
-abbrev pub code_of : Kind → ℕ
-code_of Load = 0x10
-code_of Start = 0x20
-code_of SetLines = 0x30
-code_of Run = 0x40
-code_of Show = 0x50
+abbrev pub kind_code : Kind → ℕ
+kind_code Load = 0x10
+kind_code Start = 0x20
+kind_code SetLines = 0x30
+kind_code Run = 0x40
+kind_code Show = 0x50
 
 -- the code with which a denial begins
 abbrev pub denial_code : ℕ
@@ -35,7 +35,7 @@ run_width = 4
 abbrev pub count_width : ℕ
 count_width = 16
 
--- single spaces part the fields
+-- single spaces separate the fields
 abbrev pub space : ℕ
 space = 0x20
 

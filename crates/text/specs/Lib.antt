@@ -1,6 +1,6 @@
 pub mod Digit
 pub mod Fault
 pub mod Form
-pub mod Line
+pub mod Reading
 pub mod Reread
-pub mod Written
+pub mod Writing

@@ -1,9 +1,9 @@
 -- Reading a reply back. Assumes nothing.
 use Rattle.std.specs.Prelude.{◌≡◌, ℕ, ◌^◌, ◌<◌, cond, List, [], ◌∷◌, map, length, Some, None, Option, ◌==◌}
 use Rattle.std.specs.Prelude.{slice_index}
-use Rattle.text.specs.Form.{byte_width, code_of, code_width, count_width, denial_code, word_width}
-use Rattle.text.specs.Line.{fields_of, fields_fit, value_of}
-use Rattle.text.specs.Written.{Field, reply_fields, separated_fields}
+use Rattle.text.specs.Form.{byte_width, kind_code, code_width, count_width, denial_code, word_width}
+use Rattle.text.specs.Reading.{fields_of, fields_fit, value_of}
+use Rattle.text.specs.Writing.{Field, reply_fields, separated_fields}
 use Rattle.text.specs.declared.order.Kind.TheVariants as kind
 use Rattle.text.specs.declared.reply.Reply.{Reply}
 use Rattle.text.specs.declared.reply.Reply.TheVariants.{Loaded, Started, Set, Ran, Shown, Denied}
@@ -28,11 +28,12 @@ denial_of_fields fs =
 -- the reply that begins with a code, and has the fields behind it
 abbrev pub reply_with_code : ℕ → List (List ℕ) → Option Reply
 reply_with_code k fs =
-    cond (k == code_of kind.Load) (reply_where_fit [] fs Loaded)
-    (cond (k == code_of kind.Start) (reply_where_fit [] fs Started)
-    (cond (k == code_of kind.SetLines) (reply_where_fit [] fs Set)
-    (cond (k == code_of kind.Run) (reply_where_fit (count_width ∷ count_width ∷ count_width ∷ []) fs (counts_reply fs))
-    (cond (k == code_of kind.Show)
+    cond (k == kind_code kind.Load) (reply_where_fit [] fs Loaded)
+    (cond (k == kind_code kind.Start) (reply_where_fit [] fs Started)
+    (cond (k == kind_code kind.SetLines) (reply_where_fit [] fs Set)
+    (cond (k == kind_code kind.Run)
+    (reply_where_fit (count_width ∷ count_width ∷ count_width ∷ []) fs (counts_reply fs))
+    (cond (k == kind_code kind.Show)
     (reply_where_fit (byte_width ∷ word_width ∷ []) fs (Shown (field_value fs 0) (field_value fs 1)))
     (cond (k == denial_code) (reply_where_fit (byte_width ∷ word_width ∷ word_width ∷ []) fs (denial_of_fields fs))
     None)))))

@@ -18,7 +18,7 @@ pub fn value(byte: u8) -> Option<u8>
 pub fn byte(value: u64) -> u8
     ensures { result ≡ byte_of (value % 16) }
 {
-    let value = (value % 16) as u8;
+    let value = (value & 0xF) as u8;
     if value < 10 {
         b'0' + value
     } else {

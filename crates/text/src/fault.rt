@@ -1,7 +1,7 @@
 //! Why a line has no meaning.
 
 ghost use Rattle.std.specs.Prelude.{◌≡◌};
-ghost use Rattle.text.specs.Fault.{number_of};
+ghost use Rattle.text.specs.Fault.{denial_number};
 
 #[derive(Clone, Copy)]
 pub enum LineFault {
@@ -14,7 +14,7 @@ pub enum LineFault {
 impl LineFault {
     /// The number by which the denial is known.
     pub fn number(self) -> u8
-        ensures { result ≡ number_of self }
+        ensures { result ≡ denial_number self }
     {
         self as u8
     }

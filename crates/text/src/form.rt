@@ -1,7 +1,7 @@
 //! The numbers of the form that lines and replies have.
 
 /// The code with which a denial begins.
-pub(crate) const DENIED: u64 = 0xFF;
+pub(crate) const DENIAL_CODE: u64 = 0xFF;
 
 /// How many digits a code has.
 pub(crate) const CODE_WIDTH: usize = 2;
@@ -18,8 +18,8 @@ pub(crate) const RUN_WIDTH: usize = 4;
 /// How many digits a count of a run's reply has.
 pub(crate) const COUNT_WIDTH: usize = 16;
 
-/// Single spaces part the fields.
+/// Single spaces separate the fields.
 pub(crate) const SPACE: u8 = b' ';
 
 /// The byte that ends a line, and a reply.
-pub(crate) const END: u8 = b'\n';
+pub(crate) const LINE_END: u8 = b'\n';

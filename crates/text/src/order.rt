@@ -19,7 +19,7 @@ pub enum Kind {
 impl TryFrom<u8> for Kind {
     type Error = LineFault;
 
-    ghost use Rattle.text.specs.Line.{kind_at};
+    ghost use Rattle.text.specs.Reading.{kind_at};
 
     ghost try_from_gives = { λ code r. r ≡ ok_or (kind_at code) Unknown };
 

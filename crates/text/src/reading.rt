@@ -3,7 +3,7 @@
 ghost use Rattle.std.specs.Prelude.{◌≡◌, ◌==◌, ◌^◌, ◌<◌, ◌≤◌, ◌∷◌, cond, length, map, take, Some, None, IfSome};
 ghost use Rattle.std.specs.List.{list_all};
 ghost use Rattle.std.specs.Option.{ok_or, some_prefix};
-ghost use Rattle.text.specs.Line.{fields_of, is_in_form, kind_of, read_order, read_line, value_of};
+ghost use Rattle.text.specs.Reading.{fields_of, is_in_form, field_kind, read_order, read_line, value_of};
 ghost use Rattle.text.specs.declared.fault.LineFault.TheVariants.{Form, Unknown};
 
 use super::digit;
@@ -35,7 +35,7 @@ fn number<const WIDTH: usize>(field: &[u8]) -> Option<u32>
 
 /// The kind that a first field names.
 fn kind(field: &[u8]) -> Result<Kind, LineFault>
-    ensures { result ≡ ok_or (kind_of field.now) Unknown }
+    ensures { result ≡ ok_or (field_kind field.now) Unknown }
 {
     let code = number::<CODE_WIDTH>(field).ok_or(LineFault::Unknown)?;
     Kind::try_from(code as u8)

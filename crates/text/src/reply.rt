@@ -11,13 +11,13 @@ pub struct Counts {
 /// A denial: its number, the line from 1, and the address of a refused load.
 #[derive(Clone, Copy)]
 pub struct Denied {
-    /// The number and no fault: a reply tells numbers, and two faults have number 10.
+    /// The number by which the denial is known.
     pub number: u8,
     pub line: u32,
     pub address: u32,
 }
 
-/// A denial is a line of replies like the others, written and read back in one form, and so no `Err`.
+/// A reply; a denial is one too, and has the same form.
 #[derive(Clone, Copy)]
 pub enum Reply {
     Loaded,

@@ -5,11 +5,11 @@ ghost use Rattle.std.specs.List.{All};
 ghost use Rattle.arrayvec.specs.ArrayVec.{array_vec_len};
 ghost use Rattle.text.specs.Form.{line_end, longest_reply};
 ghost use Rattle.text.specs.Reread.{RoundTrip};
-ghost use Rattle.text.specs.Written.{code_field, digits, fields_of_counts, fields_of_denial, separated_fields};
-ghost use Rattle.text.specs.Written.{reply_text};
+ghost use Rattle.text.specs.Writing.{code_field, digits, fields_of_counts, fields_of_denial, separated_fields};
+ghost use Rattle.text.specs.Writing.{reply_text};
 
 use super::digit;
-use super::form::{BYTE_WIDTH, CODE_WIDTH, COUNT_WIDTH, DENIED, END, SPACE, WORD_WIDTH};
+use super::form::{BYTE_WIDTH, CODE_WIDTH, COUNT_WIDTH, DENIAL_CODE, LINE_END, SPACE, WORD_WIDTH};
 use super::order::Kind;
 use super::reply::{Counts, Denied, Reply};
 use arrayvec::ArrayVec;
@@ -35,7 +35,7 @@ fn push_field(text: &mut Text, field: Field)
     }
 }
 
-/// A code and the fields behind it, parted by spaces, and the end of a reply.
+/// A code and the fields behind it, separated by spaces, and the end of a reply.
 fn line_of(code: u64, others: &[Field]) -> Text
     requires room { length (separated_fields (code_field code ∷ others.now)) < LONGEST_REPLY }
     requires widths { All (λ f. f.0 ≤ COUNT_WIDTH) others.now }
@@ -47,7 +47,7 @@ fn line_of(code: u64, others: &[Field]) -> Text
         text.push(SPACE);
         push_field(&mut text, *field);
     }
-    text.push(END);
+    text.push(LINE_END);
     text
 }
 
@@ -91,6 +91,6 @@ pub fn text(reply: Reply) -> Text
             let word = (WORD_WIDTH, u64::from(word));
             line_of(Kind::Show as u64, &[register, word])
         }
-        Reply::Denied(denied) => line_of(DENIED, &of_denial(denied)),
+        Reply::Denied(denied) => line_of(DENIAL_CODE, &of_denial(denied)),
     }
 }

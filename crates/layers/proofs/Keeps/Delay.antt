@@ -3,7 +3,7 @@ use Rattle.std.specs.Prelude.{◌≡◌, ℕ, ◌+◌, ◌-◌, ◌<◌, ◌≤�
 use Rattle.std.proofs.Common.{inl, sym, ap, subst, arith}
 use Rattle.std.proofs.Math.Path.{subst₃}
 use Rattle.std.proofs.lemmas.Bool.{and_from, eq-eqb, lt-ltb, ltb-false, ltb-true}
-use Rattle.layers.specs.Delay.{DelaySteps, delay, delay_means, state_after, count_left, own_waits}
+use Rattle.layers.specs.Delay.{DelaySteps, delay, delay_means, delay_state_after, count_left, own_waits}
 use Rattle.layers.proofs.Keeps.Layer.{layer, request}
 use Rattle.bus.specs.Meaning.{Answers, Keeps, Meaning, IsSound}
 use Rattle.bus.specs.Request.{access_of, same_access, kind_number}
@@ -70,7 +70,8 @@ waits n state m q h =
 asks : (n : ℕ) (state : State) (m m' : Meaning) (address : ℕ) (y : Action) (a : Answer)
     → count_left (own_waits n m.longest) state (access_of (request address y)) ≡ 0
     → Answers m (request address y) a m'
-    → Answers (delay n state m) (request address y) a (delay n (state_after (access_of (request address y)) a) m')
+    → Answers (delay n state m) (request address y) a
+    (delay n (delay_state_after (access_of (request address y)) a) m')
 asks n state m m' address y a z h =
     layer (
     record {
@@ -99,7 +100,7 @@ module _ {A : Type 0} {means : A → Meaning} {steps : A → Request → Answer 
       go : (b : Bool) → nat_lt 0 c ≡ b
           → MatchBool b
           ((a ≡ Wait) × (t.state ≡ Counting (access_of q) (c - 1)) × (t.below ≡ s.below))
-          (steps s.below q a t.below × (t.state ≡ state_after (access_of q) a))
+          (steps s.below q a t.below × (t.state ≡ delay_state_after (access_of q) a))
           → Answers m q a (delay s.n t.state (means t.below))
       go true e k =
           subst₃ (λ x y u. Answers m q x (delay s.n y (means u))) (sym k.0) (sym k.1) (sym k.2)

@@ -27,7 +27,7 @@ split_sound mark one two h k =
     }
 
 module _ (mark address : ℕ) (y : Action) where
-  -- the mark parts no word
+  -- the mark divides no word
   below : address < word_of mark → (x : ℕ) → word_of x ≡ word_of address → nat_lt x (word_of mark) ≡ true
   below l x e = lt-ltb x (word_of mark) (omega arith)
 

@@ -41,7 +41,7 @@ one_to_one base x y h k e = go (cases_order ((word_of base + x) / 2 ^ 32) ((word
     go (inr (inr l)) = omega arith
 
 module _ (base limit address : ℕ) where
-  -- the limit parts no word
+  -- the limit divides no word
   below : address < limit_address limit → (x : ℕ) → word_of x ≡ word_of address → nat_lt x (limit_address limit) ≡ true
   below l x e = lt-ltb x (limit_address limit) (omega arith)
 

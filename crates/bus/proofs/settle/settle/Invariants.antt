@@ -1,4 +1,4 @@
-use Rattle.bus.specs.Settled.{Waits}
+use Rattle.bus.specs.Settle.{Waits}
 use Rattle.bus.proofs.settle.settle.Given as goal
 
 abbrev pub invariant-loop-waits : goal.invariant-loop-waits

@@ -1,5 +1,5 @@
 use Rattle.std.proofs.Common.{◌≡◌, true, false, [], ◌++◌, length, take, drop, eqb, sym, ap, ◌∙◌, subst}
-use Rattle.text.specs.Written.{reply_text}
+use Rattle.text.specs.Writing.{reply_text}
 use Rattle.replies.specs.Replies.{text_of_replies, replies_to_come}
 use Rattle.cases.proofs.Compared.{begun, differs, ended}
 use Rattle.cases.proofs.case.holds.Goals as goal

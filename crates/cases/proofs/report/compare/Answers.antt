@@ -1,6 +1,6 @@
 use Rattle.std.proofs.Common.{rules, ◌≡◌, ◌+◌, ◌++◌, ◌∷◌, [], take, sym, subst, ap, ◌∙◌}
 use Rattle.std.proofs.lemmas.List.{take_all, take_more}
-use Rattle.cases.specs.Tallied.{CountsCase, CountsCases, no_cases}
+use Rattle.cases.specs.Report.{CountsCase, CountsCases, no_cases}
 use Rattle.cases.proofs.Counting.{counts_more}
 use Rattle.cases.proofs.report.compare.Goals as goal
 
@@ -26,5 +26,6 @@ loop-case-preserved g c =
 pub returns : goal.returns
 returns g c =
     subst (λ ys. CountsCases no_cases ys c.loop-case.tally)
-    (take_all c.loop-case.case-index c.deref-case-items.result.now c.loop-case-test.false ∙ c.deref-case-items.ensures.value)
+    (take_all c.loop-case.case-index c.deref-case-items.result.now c.loop-case-test.false
+    ∙ c.deref-case-items.ensures.value)
     c.loop-case.invariant

@@ -1,5 +1,5 @@
 use Rattle.std.proofs.Common.{take}
-use Rattle.cases.specs.Tallied.{CountsCases, no_cases}
+use Rattle.cases.specs.Report.{CountsCases, no_cases}
 use Rattle.cases.proofs.report.compare.Given as goal
 
 abbrev pub invariant-loop-case : goal.invariant-loop-case

@@ -15,7 +15,7 @@ use Rattle.jobs.proofs.station.after_start.Goals as goal
 
 module _ (g : given.Over) (b d : Machine g.row.B.Denot) where
   abbrev Obeyed : Order → Result Reply JobFault → Type 0
-  Obeyed o r = LateAnswers g.B.Bus.means g.B.Bus.steps b ((decision o).after b.processor b.observed.report) r d
+  Obeyed o r = LateAnswers g.B.Bus.means g.B.Bus.steps b ((decision o).after b.processor b.observation.report) r d
 
   -- what was shown of the order in hand is shown of the one that was passed
   obeyed : (x y : Order) (r : Result Reply JobFault) → x ≡ y → Obeyed y r → Obeyed x r

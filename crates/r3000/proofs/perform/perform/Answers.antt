@@ -3,18 +3,18 @@ use Rattle.std.proofs.Common.{subst₂, arith}
 use Rattle.std.proofs.lemmas.List.{drop-set-lt, take_all, take_more, take_more_set}
 use Rattle.r3000.specs.Core.{machine_of}
 use Rattle.r3000.specs.Machine.{core_at_power_up, no_history}
-use Rattle.r3000.specs.CallList.{MakesCalls}
+use Rattle.r3000.specs.Perform.{MakesCalls}
 use Rattle.r3000.specs.Promise.{IsPromised}
 use Rattle.r3000.specs.declared.call.Call.TheVariants as call
 use Rattle.r3000.specs.declared.call.Exchange.{Exchange}
-use Rattle.r3000.proofs.CallList.{plays_more, same_rest}
+use Rattle.r3000.proofs.Performs.{plays_more, same_rest}
 use Rattle.r3000.proofs.perform.perform.Goals as goal
 
 pub loop-exchange-init : goal.loop-exchange-init
 loop-exchange-init g c =
     record {
       history = no_history;
-      played = c.new-core.ensures.core;
+      calls = c.new-core.ensures.core;
       reached = c.new-core.ensures.promise.reached;
       rest = refl;
     }
@@ -34,10 +34,10 @@ loop-exchange-preserved g c =
     let more =
     plays_more g.B.Bus.means g.B.Bus.steps c.args.pile (core_at_power_up c.args.pile)
     (machine_of before.history c.loop-exchange.core) (machine_of done.0 c.call.new.self) (take i xs) (take i ys)
-    (get_or ys i none) c.call.result before.played before.reached done.1 done.2 in
+    (get_or ys i none) c.call.result before.calls before.reached done.1 done.2 in
     record {
       history = done.0;
-      played =
+      calls =
           subst₂
           (λ us vs. MakesCalls g.B.Bus.means g.B.Bus.steps (IsPromised g.B.Bus.means g.B.Bus.steps c.args.pile)
           (core_at_power_up c.args.pile) us vs (machine_of done.0 c.call.new.self))
@@ -53,14 +53,14 @@ returns g c =
     let i = c.loop-exchange.exchange-index in (
       w.history,
       record {
-        begun =
+        promise =
             subst (λ m. IsPromised g.B.Bus.means g.B.Bus.steps c.args.pile m) c.new-core.ensures.core
             c.new-core.ensures.promise;
-        played =
+        calls =
             subst₂
             (λ us vs. MakesCalls g.B.Bus.means g.B.Bus.steps (IsPromised g.B.Bus.means g.B.Bus.steps c.args.pile)
             (core_at_power_up c.args.pile) us vs (machine_of w.history c.loop-exchange.core))
             (take_all i c.args.exchanges.now c.loop-exchange-test.false)
-            (take_all i c.loop-exchange.exchanges (omega arith)) w.played;
+            (take_all i c.loop-exchange.exchanges (omega arith)) w.calls;
       },
     )

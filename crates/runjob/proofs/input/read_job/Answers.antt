@@ -24,8 +24,8 @@ returns-in-Ok-eq0 g c =
       c.loop-chunk-test.true,
     )) in
     let first = first-end _ _ job same end
-    (omega (arith, c.loop-chunk.invariant.1, c.loop-chunk.job.ok.0, c.enough-most.ensures.value)) in
-    TakesJob-first _ _ _ job c.enough-most.ensures.value c.enough-most.ensures.tells same first
+    (omega (arith, c.loop-chunk.invariant.1, c.loop-chunk.job.ok.0, c.enough_bytes-most.ensures.value)) in
+    TakesJob-first _ _ _ job c.enough_bytes-most.ensures.value c.enough_bytes-most.ensures.tells same first
 
 pub returns-in_err-extend_from_slice-in-Ok : goal.returns-in_err-extend_from_slice-in-Ok
 returns-in_err-extend_from_slice-in-Ok g c =
@@ -51,7 +51,7 @@ returns-in_err-extend_from_slice-in-Ok g c =
         c.len-in-loop-chunk.ensures,
         c.loop-chunk.invariant.1,
         c.loop-chunk.job.ok.0,
-        c.enough-most.ensures.value,
+        c.enough_bytes-most.ensures.value,
       ),
     )
 
@@ -63,8 +63,8 @@ returns g c =
       arith,
       c.loop-chunk.invariant.1,
       c.loop-chunk.job.ok.0,
-      c.enough-most.ensures.value,
+      c.enough_bytes-most.ensures.value,
       c.len.ensures,
       c.loop-chunk-test.false,
     )) in
-    TakesJob-first _ _ _ job c.enough-most.ensures.value c.enough-most.ensures.tells same first
+    TakesJob-first _ _ _ job c.enough_bytes-most.ensures.value c.enough_bytes-most.ensures.tells same first

@@ -1,7 +1,7 @@
 use Rattle.std.proofs.Common.{rules, tests, ◌==◌, ◌<◌, length, arith, [], ◌∷◌, Some}
 use Rattle.std.proofs.lemmas.Iterator.Splits.{YieldsList-from_slice_split}
 use Rattle.std.proofs.lemmas.List.Splits.{length-slice_split}
-use Rattle.text.specs.Line.{fields_of}
+use Rattle.text.specs.Reading.{fields_of}
 use Rattle.text.proofs.Fields.{IsSome-first, parts-gives}
 use Rattle.text.proofs.reading.first_fields.Goals as goal
 

@@ -3,7 +3,7 @@ use Rattle.std.proofs.lemmas.Bool.{lt-ltb, false≢true}
 use Rattle.std.proofs.lemmas.Iterator.{YieldsList-from_slice}
 use Rattle.std.proofs.lemmas.Iterator.Search.{all_from_yields_List}
 use Rattle.std.specs.List.{list_all}
-use Rattle.text.specs.Line.{is_in_form, is_digit}
+use Rattle.text.specs.Reading.{is_in_form, is_digit}
 use Rattle.text.proofs.reading.is_in_form.Goals as goal
 
 -- a field that is not empty

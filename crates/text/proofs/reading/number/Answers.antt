@@ -5,7 +5,7 @@ use Rattle.std.proofs.lemmas.Bool.{cond-true, eq-eqb}
 use Rattle.std.proofs.lemmas.Iterator.{YieldsList-from_slice, YieldsList-from_map}
 use Rattle.std.proofs.lemmas.Iterator.Consumers.{fold_from_yields_List}
 use Rattle.std.specs.List.{fold}
-use Rattle.text.specs.Line.{digit_value, value_of}
+use Rattle.text.specs.Reading.{digit_value, value_of}
 use Rattle.text.proofs.Numbers.{appended, fold_of_digits, value_of-lt}
 use Rattle.text.proofs.reading.number.Goals as goal
 

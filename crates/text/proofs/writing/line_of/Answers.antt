@@ -1,14 +1,14 @@
 use Rattle.std.proofs.Common.{◌+◌, ◌++◌, length, drop, slice_index_or, ap, sym, ◌∙◌, arith}
 use Rattle.std.proofs.lemmas.List.{at_drop_more, length-append}
-use Rattle.text.specs.Written.{code_field, digits}
-use Rattle.text.proofs.Parted.{behind, parted-behind, digits-length}
+use Rattle.text.specs.Writing.{code_field, digits}
+use Rattle.text.proofs.Separated.{behind, separated-behind, digits-length}
 use Rattle.text.proofs.writing.line_of.Goals as goal
 
 pub loop-field-init : goal.loop-field-init
 loop-field-init c =
     ap (λ xs. xs ++ behind c.args.others.now)
     (c.push_field.ensures ∙ ap (λ xs. xs ++ digits (code_field c.args.code).0 c.args.code) c.new-text.ensures)
-    ∙ parted-behind (code_field c.args.code) c.args.others.now
+    ∙ separated-behind (code_field c.args.code) c.args.others.now
 
 pub push_field-requires-in-loop-field-clause-room : goal.push_field-requires-in-loop-field-clause-room
 push_field-requires-in-loop-field-clause-room c =

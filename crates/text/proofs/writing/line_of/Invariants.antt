@@ -1,6 +1,6 @@
 use Rattle.std.proofs.Common.{◌≡◌, ◌++◌, ◌∷◌, drop}
-use Rattle.text.specs.Written.{code_field, separated_fields}
-use Rattle.text.proofs.Parted.{behind}
+use Rattle.text.specs.Writing.{code_field, separated_fields}
+use Rattle.text.proofs.Separated.{behind}
 use Rattle.text.proofs.writing.line_of.Given as goal
 
 abbrev pub invariant-loop-field : goal.invariant-loop-field

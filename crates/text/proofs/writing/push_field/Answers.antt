@@ -1,6 +1,6 @@
 use Rattle.std.proofs.Common.{◌-◌, ◌∷◌, ◌++◌, [], ap, sym, ◌∙◌, append_assoc, arith}
-use Rattle.text.specs.Written.{digits}
-use Rattle.text.proofs.Parted.{digits-first}
+use Rattle.text.specs.Writing.{digits}
+use Rattle.text.proofs.Separated.{digits-first}
 use Rattle.text.proofs.writing.push_field.Goals as goal
 
 pub loop-place-preserved : goal.loop-place-preserved

@@ -1,6 +1,6 @@
 use Rattle.std.proofs.Common.{◌≡◌, ◌≤◌, ◌+◌, ◌++◌}
 use Rattle.arrayvec.specs.ArrayVec.{array_vec_len}
-use Rattle.text.specs.Written.{digits}
+use Rattle.text.specs.Writing.{digits}
 use Rattle.text.specs.Form.{longest_reply}
 use Rattle.text.proofs.writing.push_field.Given as goal
 

@@ -1,4 +1,4 @@
-use Rattle.std.proofs.Common.{◌≡◌, ℕ, [], ◌∷◌, Ok, Err, Result, sym, refl, subst, subst₂, rules}
+use Rattle.std.proofs.Common.{◌≡◌, ℕ, [], ◌∷◌, Ok, Err, Result, ap, sym, refl, subst, subst₂, rules}
 use Rattle.std.specs.Result.{MatchResult}
 use Rattle.jobs.specs.Job.{AnswersLine, line_replies, denial_reply}
 use Rattle.jobs.specs.Station.{StageIsPromised, StageIsReached, stage_of_station}
@@ -43,7 +43,8 @@ returns g c s h =
             (stage_of_station s h c.match-read.station.0)) w.in-Err.ensures reply
             (subst
             (λ e. AnswersLine g.B.Bus.means g.B.Bus.steps (stage_of_station s h c.args.self) n (Err w.in-Err.fault)
-            (line_replies n e.1) (stage_of_station s h e.0)) (sym w.station-is) (refl, refl)),
+            (line_replies n e.1) (stage_of_station s h e.0)) (sym w.station-is)
+            (ap (λ f. line_replies n (Err f)) w.into.ensures, refl)),
         subst
             (λ e. StageIsReached g.B.Bus.means g.B.Bus.steps (stage_of_station s h c.args.self)
             → StageIsPromised g.B.Bus.means g.B.Bus.steps (stage_of_station s h e.0)) (sym w.station-is)

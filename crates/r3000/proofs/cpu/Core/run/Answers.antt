@@ -19,14 +19,14 @@ one_more false true n = refl
 one_more false false n = refl
 
 as_many : {S : Type 0} (steps : S → Request → Answer → S → Type 0) (says : Machine S → Type 0) (n : ℕ)
-    (c d : Machine S) → Cycles steps says n c d → d.observed.report.cycles ≡ c.observed.report.cycles + n
-as_many steps says zero c d h = omega (arith, ap (λ m. m.observed.report.cycles) h)
+    (c d : Machine S) → Cycles steps says n c d → d.observation.report.cycles ≡ c.observation.report.cycles + n
+as_many steps says zero c d h = omega (arith, ap (λ m. m.observation.report.cycles) h)
 as_many steps says (suc n) c d h =
     omega (
       arith,
       as_many steps says n c h.0 h.2,
       ap (λ m. m.cycles) (report_of h.3),
-      one_more h.1 (ends_path (current_row h.0.processor.state).sequencing) h.0.observed.report,
+      one_more h.1 (ends_path (current_row h.0.processor.state).sequencing) h.0.observation.report,
     )
 
 pub returns-in_err-check_run : goal.returns-in_err-check_run

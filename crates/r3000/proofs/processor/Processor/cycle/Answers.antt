@@ -5,6 +5,6 @@ use Rattle.r3000.proofs.processor.Processor.cycle.Goals as goal
 
 pub returns : goal.returns
 returns g c h = (
-  history_after (machine_of_parts h c.args.self.now c.args.pile.now).processor c.freezes-frozen.result h,
+  history_after (machine_of_parts h c.args.self.now c.args.pile.now).processor c.is_wait-frozen.result h,
   record { answer = c.ask-answer.result; asks = search rules; freeze = search rules; after = search rules },
 )

@@ -6,7 +6,7 @@ use Rattle.std.proofs.lemmas.Grind.{pow_more}
 use Rattle.std.proofs.lemmas.List.{append-nil}
 use Rattle.text.specs.Digit.{byte_of}
 use Rattle.text.specs.Form.{space}
-use Rattle.text.specs.Written.{Field, digits, separated_fields}
+use Rattle.text.specs.Writing.{Field, digits, separated_fields}
 
 sixteen : (n : ℕ) → 2 ^ (4 * n) ≡ 16 ^ n
 sixteen zero = refl
@@ -35,9 +35,9 @@ abbrev pub behind : List Field → List ℕ
 behind [] = []
 behind (f ∷ fs) = space ∷ (digits f.0 f.1 ++ behind fs)
 
-pub parted-behind : (f : Field) (fs : List Field) → digits f.0 f.1 ++ behind fs ≡ separated_fields (f ∷ fs)
-parted-behind f [] = append-nil (digits f.0 f.1)
-parted-behind f (g ∷ gs) = ap (λ xs. digits f.0 f.1 ++ space ∷ xs) (parted-behind g gs)
+pub separated-behind : (f : Field) (fs : List Field) → digits f.0 f.1 ++ behind fs ≡ separated_fields (f ∷ fs)
+separated-behind f [] = append-nil (digits f.0 f.1)
+separated-behind f (g ∷ gs) = ap (λ xs. digits f.0 f.1 ++ space ∷ xs) (separated-behind g gs)
 
 pub digits-length : (n v : ℕ) → length (digits n v) ≡ n
 digits-length zero v = refl

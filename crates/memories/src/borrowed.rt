@@ -1,7 +1,7 @@
-//! The caller's own bytes after they were lent to a memory.
+//! The caller's own bytes after a memory borrowed them.
 
 ghost use Rattle.std.specs.Prelude.{◌≡◌};
-ghost use Rattle.memories.specs.Lent.{ReplacesWord, word_in};
+ghost use Rattle.memories.specs.Borrowed.{ReplacesWord, word_in};
 
 use super::placement::check_placement;
 use super::ram::Ram;

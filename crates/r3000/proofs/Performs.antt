@@ -7,7 +7,7 @@ use Rattle.bus.specs.declared.request.Request.{Request}
 use Rattle.r3000.specs.Calls.{WhereGranted, Runs, check_run}
 use Rattle.r3000.specs.Cycle.{Cycles}
 use Rattle.r3000.specs.Machine.{Machine}
-use Rattle.r3000.specs.CallList.{MakesCall, MakesCalls}
+use Rattle.r3000.specs.Perform.{MakesCall, MakesCalls}
 use Rattle.r3000.specs.Promise.{IsPromised, Upholds}
 use Rattle.r3000.specs.Reached.{IsReached}
 use Rattle.r3000.specs.declared.call.Call.{Call}
@@ -26,10 +26,11 @@ module _ {S : Type 0} (means : S → Meaning)
   cycles (suc n) c d h = (h.0, h.1, cycles n c h.0 h.2, h.3, follows d h.4)
 
   pub runs : (n : ℕ) (c d : Machine S) (q : Result Report Denial) → Runs steps says n c q d → Runs steps tells n c q d
-  runs n c d q h = by (check_run n c.observed.report) h
+  runs n c d q h = by (check_run n c.observation.report) h
     where
-      by : (o : Result (Unit {0}) Denial) → WhereGranted o c q d (Cycles steps says n c d × (q ≡ Ok d.observed.report))
-          → WhereGranted o c q d (Cycles steps tells n c d × (q ≡ Ok d.observed.report))
+      by : (o : Result (Unit {0}) Denial)
+          → WhereGranted o c q d (Cycles steps says n c d × (q ≡ Ok d.observation.report))
+          → WhereGranted o c q d (Cycles steps tells n c d × (q ≡ Ok d.observation.report))
       by (Err e) h = h
       by (Ok _) h = (cycles n c d h.0, h.1)
 

@@ -48,5 +48,5 @@ module _ {S : Type 0} (means : S → Meaning) (steps : S → Request → Answer 
 -- run, the promise holds
 pub record Performs {S : Type 0} (means : S → Meaning) (steps : S → Request → Answer → S → Type 0)
     (start : S) (before after : List Exchange) (c : Machine S) : Type 0 where
-  pub begun : IsPromised means steps start (core_at_power_up start)
-  pub played : MakesCalls means steps (IsPromised means steps start) (core_at_power_up start) before after c
+  pub promise : IsPromised means steps start (core_at_power_up start)
+  pub calls : MakesCalls means steps (IsPromised means steps start) (core_at_power_up start) before after c

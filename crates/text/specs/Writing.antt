@@ -1,7 +1,7 @@
 -- The bytes of a reply. Assumes nothing.
 use Rattle.std.specs.Prelude.{ℕ, zero, suc, ◌/◌, ◌%◌, ◌^◌, List, [], ◌∷◌, ◌++◌}
 use Rattle.text.specs.Digit.{byte_of}
-use Rattle.text.specs.Form.{byte_width, code_of, code_width, count_width, denial_code, line_end, space, word_width}
+use Rattle.text.specs.Form.{byte_width, kind_code, code_width, count_width, denial_code, line_end, space, word_width}
 use Rattle.text.specs.declared.reply.Counts.{Counts}
 use Rattle.text.specs.declared.order.Kind.TheVariants as kind
 use Rattle.text.specs.declared.reply.Denied as denial
@@ -31,14 +31,14 @@ code_field code = (code_width, code)
 
 -- the fields of a reply: its code, and what it tells
 abbrev pub reply_fields : Reply → List Field
-reply_fields Loaded = code_field (code_of kind.Load) ∷ []
-reply_fields Started = code_field (code_of kind.Start) ∷ []
-reply_fields Set = code_field (code_of kind.SetLines) ∷ []
-reply_fields (Ran n) = code_field (code_of kind.Run) ∷ fields_of_counts n
-reply_fields (Shown r w) = code_field (code_of kind.Show) ∷ (byte_width, r) ∷ (word_width, w) ∷ []
+reply_fields Loaded = code_field (kind_code kind.Load) ∷ []
+reply_fields Started = code_field (kind_code kind.Start) ∷ []
+reply_fields Set = code_field (kind_code kind.SetLines) ∷ []
+reply_fields (Ran n) = code_field (kind_code kind.Run) ∷ fields_of_counts n
+reply_fields (Shown r w) = code_field (kind_code kind.Show) ∷ (byte_width, r) ∷ (word_width, w) ∷ []
 reply_fields (Denied d) = code_field denial_code ∷ fields_of_denial d
 
--- fields parted by single spaces
+-- fields separated by single spaces
 abbrev pub separated_fields : List Field → List ℕ
 separated_fields [] = []
 separated_fields (f ∷ []) = digits f.0 f.1

@@ -4,7 +4,7 @@ use Rattle.std.specs.Prelude.{Some, None, Ok, Err, Option, Result, ◌==◌, nat
 use Rattle.std.specs.List.{list_all, slice_split}
 use Rattle.std.specs.Option.{unwrap_or}
 use Rattle.text.specs.Digit.{digit_of}
-use Rattle.text.specs.Form.{byte_width, code_of, code_width, run_width, space, word_width}
+use Rattle.text.specs.Form.{byte_width, kind_code, code_width, run_width, space, word_width}
 use Rattle.text.specs.declared.fault.LineFault.{LineFault}
 use Rattle.text.specs.declared.fault.LineFault.TheVariants as fault
 use Rattle.text.specs.declared.order.Kind.{Kind}
@@ -12,7 +12,8 @@ use Rattle.text.specs.declared.order.Kind.TheVariants as kind
 use Rattle.text.specs.declared.order.Order.{Order}
 use Rattle.text.specs.declared.order.Order.TheVariants as order
 
--- a line's fields: single spaces part them; two spaces in a row, or one at an end of the line, leave an empty field
+-- a line's fields: single spaces separate them; two spaces in a row, or one at an end of the line, leave an empty
+-- field
 abbrev pub fields_of : List ℕ → List (List ℕ)
 fields_of line = slice_split (λ b. b == space) line
 
@@ -36,13 +37,13 @@ value_of (b ∷ bs) = digit_value b * 16 ^ length bs + value_of bs
 -- the kinds, by their codes
 abbrev pub kind_at : ℕ → Option Kind
 kind_at v =
-    cond (v == code_of kind.Load) (Some kind.Load) (cond (v == code_of kind.Start) (Some kind.Start)
-    (cond (v == code_of kind.SetLines) (Some kind.SetLines) (cond (v == code_of kind.Run) (Some kind.Run)
-    (cond (v == code_of kind.Show) (Some kind.Show) None))))
+    cond (v == kind_code kind.Load) (Some kind.Load) (cond (v == kind_code kind.Start) (Some kind.Start)
+    (cond (v == kind_code kind.SetLines) (Some kind.SetLines) (cond (v == kind_code kind.Run) (Some kind.Run)
+    (cond (v == kind_code kind.Show) (Some kind.Show) None))))
 
 -- a first field of any other width is no kind
-abbrev pub kind_of : List ℕ → Option Kind
-kind_of f = cond (length f == code_width) (kind_at (value_of f)) None
+abbrev pub field_kind : List ℕ → Option Kind
+field_kind f = cond (length f == code_width) (kind_at (value_of f)) None
 
 -- the widths of the other fields: an address and a word; none; the lines; a count of cycles; a register
 abbrev pub widths : Kind → List ℕ
@@ -75,7 +76,7 @@ read_order (Some k) fs = cond (fields_fit (widths k) fs) (Ok (order_of k (map va
 -- the first field names the kind; every line has one
 abbrev pub read_fields : List (List ℕ) → Result Order LineFault
 read_fields [] = Err fault.Form
-read_fields (f ∷ fs) = read_order (kind_of f) fs
+read_fields (f ∷ fs) = read_order (field_kind f) fs
 
 -- what a line means, or its first denial
 abbrev pub read_line : List ℕ → Result Order LineFault

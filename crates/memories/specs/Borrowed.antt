@@ -1,4 +1,4 @@
--- A word of bytes that are lent to a memory for two requests. Assumes nothing.
+-- A word of bytes that are borrowed by a memory for two requests. Assumes nothing.
 use Rattle.std.specs.Prelude.{◌≡◌, ℕ, Bool, cond, List, length, Some, None, Option}
 use Rattle.bus.specs.Meaning.{stored_byte, word_at}
 use Rattle.bus.specs.Request.{word_of}
