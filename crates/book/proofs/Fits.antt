@@ -19,7 +19,7 @@ use Rattle.book.specs.Book.{Book, Effect, Event, Refusals, address, after_fetch,
 use Rattle.book.specs.Book.{effect_of, entry_of, from_system, jump_to, load_with, with_risen_pc, raised_byte}
 use Rattle.book.specs.Book.{raised_half}
 use Rattle.book.specs.Book.{store_with, to_sr, to_system, with_fault, with_link, without_fault}
-use Rattle.book.specs.Fit.{BeginsFit, Fit, StepsFit, Words}
+use Rattle.book.specs.Fit.{BeginsFit, IsFit, StepsFit, HoldsWords}
 use Rattle.book.specs.Instruction.{Instruction, instruction_of, table_entry}
 
 -- what holds of two values holds of the one that a test picks
@@ -39,13 +39,13 @@ immediate_small ir = omega arith
 upper_small : (ir : ℕ) → immediate ir * 2 ^ 16 < 2 ^ 32
 upper_small ir = omega arith
 
-rsw : {g : Regs} → Words g → reg g (rs g.ir) < 2 ^ 32
+rsw : {g : Regs} → HoldsWords g → reg g (rs g.ir) < 2 ^ 32
 rsw {g} h = h.general (rs g.ir)
 
-rtw : {g : Regs} → Words g → reg g (rt g.ir) < 2 ^ 32
+rtw : {g : Regs} → HoldsWords g → reg g (rt g.ir) < 2 ^ 32
 rtw {g} h = h.general (rt g.ir)
 
-with_pc_lem : (g : Regs) (v : ℕ) → v < 2 ^ 32 → Words g → Words (with_pc v g)
+with_pc_lem : (g : Regs) (v : ℕ) → v < 2 ^ 32 → HoldsWords g → HoldsWords (with_pc v g)
 with_pc_lem g v small h =
     record {
       general = h.general;
@@ -60,7 +60,7 @@ with_pc_lem g v small h =
       ir = h.ir;
     }
 
-with_hi_lem : (g : Regs) (v : ℕ) → v < 2 ^ 32 → Words g → Words (with_hi v g)
+with_hi_lem : (g : Regs) (v : ℕ) → v < 2 ^ 32 → HoldsWords g → HoldsWords (with_hi v g)
 with_hi_lem g v small h =
     record {
       general = h.general;
@@ -75,7 +75,7 @@ with_hi_lem g v small h =
       ir = h.ir;
     }
 
-with_lo_lem : (g : Regs) (v : ℕ) → v < 2 ^ 32 → Words g → Words (with_lo v g)
+with_lo_lem : (g : Regs) (v : ℕ) → v < 2 ^ 32 → HoldsWords g → HoldsWords (with_lo v g)
 with_lo_lem g v small h =
     record {
       general = h.general;
@@ -90,7 +90,7 @@ with_lo_lem g v small h =
       ir = h.ir;
     }
 
-with_sr_lem : (g : Regs) (v : ℕ) → v < 2 ^ 32 → Words g → Words (with_sr v g)
+with_sr_lem : (g : Regs) (v : ℕ) → v < 2 ^ 32 → HoldsWords g → HoldsWords (with_sr v g)
 with_sr_lem g v small h =
     record {
       general = h.general;
@@ -105,7 +105,7 @@ with_sr_lem g v small h =
       ir = h.ir;
     }
 
-with_cr_lem : (g : Regs) (v : ℕ) → v < 2 ^ 32 → Words g → Words (with_cr v g)
+with_cr_lem : (g : Regs) (v : ℕ) → v < 2 ^ 32 → HoldsWords g → HoldsWords (with_cr v g)
 with_cr_lem g v small h =
     record {
       general = h.general;
@@ -120,7 +120,7 @@ with_cr_lem g v small h =
       ir = h.ir;
     }
 
-with_epc_lem : (g : Regs) (v : ℕ) → v < 2 ^ 32 → Words g → Words (with_epc v g)
+with_epc_lem : (g : Regs) (v : ℕ) → v < 2 ^ 32 → HoldsWords g → HoldsWords (with_epc v g)
 with_epc_lem g v small h =
     record {
       general = h.general;
@@ -135,7 +135,7 @@ with_epc_lem g v small h =
       ir = h.ir;
     }
 
-with_bar_lem : (g : Regs) (v : ℕ) → v < 2 ^ 32 → Words g → Words (with_bar v g)
+with_bar_lem : (g : Regs) (v : ℕ) → v < 2 ^ 32 → HoldsWords g → HoldsWords (with_bar v g)
 with_bar_lem g v small h =
     record {
       general = h.general;
@@ -150,7 +150,7 @@ with_bar_lem g v small h =
       ir = h.ir;
     }
 
-with_ad_lem : (g : Regs) (v : ℕ) → v < 2 ^ 32 → Words g → Words (with_ad v g)
+with_ad_lem : (g : Regs) (v : ℕ) → v < 2 ^ 32 → HoldsWords g → HoldsWords (with_ad v g)
 with_ad_lem g v small h =
     record {
       general = h.general;
@@ -165,7 +165,7 @@ with_ad_lem g v small h =
       ir = h.ir;
     }
 
-with_ir_lem : (g : Regs) (v : ℕ) → v < 2 ^ 32 → Words g → Words (with_ir v g)
+with_ir_lem : (g : Regs) (v : ℕ) → v < 2 ^ 32 → HoldsWords g → HoldsWords (with_ir v g)
 with_ir_lem g v small h =
     record {
       general = h.general;
@@ -181,7 +181,7 @@ with_ir_lem g v small h =
     }
 
 module _ (law : WordsStayWords) where
-  puts : (g : Regs) (n v : ℕ) → v < 2 ^ 32 → Words g → Words (with_register n v g)
+  puts : (g : Regs) (n v : ℕ) → v < 2 ^ 32 → HoldsWords g → HoldsWords (with_register n v g)
   puts g n v small h =
       record {
         general = λ j. law.general g n j v small h.general;
@@ -196,27 +196,28 @@ module _ (law : WordsStayWords) where
         ir = h.ir;
       }
 
-  links : (link : Bool) (g : Regs) → Words g → Words (with_link link g)
+  links : (link : Bool) (g : Regs) → HoldsWords g → HoldsWords (with_link link g)
   links true g h = puts g 31 g.pc h.pc h
   links false g h = h
 
   -- what a step made, before its fetch
   pub record Good (m : Effect) : Type 0 where
-    pub words : Words m.regs
+    pub words : HoldsWords m.regs
     pub bytes : (x : ℕ) → m.bytes x < 256
 
-  did_fit : (b : Book) (g : Regs) → Words g → ((x : ℕ) → b.bytes x < 256) → Good (without_fault b g)
+  did_fit : (b : Book) (g : Regs) → HoldsWords g → ((x : ℕ) → b.bytes x < 256) → Good (without_fault b g)
   did_fit b g h k = record { words = h; bytes = k }
 
-  met_fit : (b : Book) (c : Fault) (g : Regs) → Words g → ((x : ℕ) → b.bytes x < 256) → Good (with_fault b c g)
+  met_fit : (b : Book) (c : Fault) (g : Regs) → HoldsWords g → ((x : ℕ) → b.bytes x < 256) → Good (with_fault b c g)
   met_fit b c g h k = record { words = h; bytes = k }
 
-  goes_fit : (b : Book) (t : ℕ) (g : Regs) → t < 2 ^ 32 → Words g → ((x : ℕ) → b.bytes x < 256) → Good (jump_to b t g)
+  goes_fit : (b : Book) (t : ℕ) (g : Regs) → t < 2 ^ 32 → HoldsWords g → ((x : ℕ) → b.bytes x < 256)
+      → Good (jump_to b t g)
   goes_fit b t g small h k =
       pick Good (is_misplaced 4 g.sr t) (met_fit b f.Adel _ (with_ad_lem g t small h) k)
       (did_fit b _ (with_pc_lem _ t small (with_ad_lem g t small h)) k)
 
-  branch_fit : (b : Book) (taken : Bool) (g : Regs) → Words g → ((x : ℕ) → b.bytes x < 256)
+  branch_fit : (b : Book) (taken : Bool) (g : Regs) → HoldsWords g → ((x : ℕ) → b.bytes x < 256)
       → Good (branch_if b taken g)
   branch_fit b taken g h k = pick Good taken (goes_fit b _ g (below _) h k) (did_fit b g h k)
 
@@ -231,10 +232,10 @@ module _ (law : WordsStayWords) where
 
   loads_fit : (r : Refusals) (b : Book) (bad : Bool) (value left : ℕ → ℕ → ℕ) (g : Regs)
       → value (address g) (word_at b.bytes (word_of (address g))) < 2 ^ 32
-      → left (address g) (word_at b.bytes (word_of (address g))) < 2 ^ 32 → Words g → ((x : ℕ) → b.bytes x < 256)
+      → left (address g) (word_at b.bytes (word_of (address g))) < 2 ^ 32 → HoldsWords g → ((x : ℕ) → b.bytes x < 256)
       → Good (load_with r b bad value left g)
   loads_fit r b bad value left g small rest h k =
-      let placed : Words (with_ad (address g) g) = with_ad_lem g (address g) (below _) h in
+      let placed : HoldsWords (with_ad (address g) g) = with_ad_lem g (address g) (below _) h in
       pick Good bad (met_fit b f.Adel _ placed k)
       (pick Good (r.unreadable (word_of (address g))) (met_fit b f.Dbe _ placed k)
       (did_fit b _ (puts _ (rt g.ir) _ small (with_ad_lem g _ rest h)) k))
@@ -242,10 +243,10 @@ module _ (law : WordsStayWords) where
   stored_small : (from n d : ℕ) (byte : ℕ → ℕ) → ((x : ℕ) → byte x < 256) → (x : ℕ) → stored_byte from n d byte x < 256
   stored_small from n d byte k x = pick (λ m. m < 256) (leb from x && ltb x (from + n)) (omega arith) (k x)
 
-  stores_fit : (r : Refusals) (b : Book) (bad : Bool) (width : Width) (g : Regs) → Words g
+  stores_fit : (r : Refusals) (b : Book) (bad : Bool) (width : Width) (g : Regs) → HoldsWords g
       → ((x : ℕ) → b.bytes x < 256) → Good (store_with r b bad width g)
   stores_fit r b bad width g h k =
-      let placed : Words (with_ad (address g) g) = with_ad_lem g (address g) (below _) h in
+      let placed : HoldsWords (with_ad (address g) g) = with_ad_lem g (address g) (below _) h in
       pick Good bad (met_fit b f.Ades _ placed k)
       (pick Good (r.unwritable (word_of (address g))) (met_fit b f.Dbe _ placed k) (record {
         words =
@@ -264,7 +265,7 @@ module _ (law : WordsStayWords) where
       either bar _ (eqb n 8) is_bar
       (either sr _ (eqb n 12) is_sr (either cr _ (eqb n 13) is_cr (either epc other (eqb n 14) is_epc is_other)))
 
-  from_fit : (b : Book) (g : Regs) (n : ℕ) → Words g → ((x : ℕ) → b.bytes x < 256) → Good (from_system b g n)
+  from_fit : (b : Book) (g : Regs) (n : ℕ) → HoldsWords g → ((x : ℕ) → b.bytes x < 256) → Good (from_system b g n)
   from_fit b g n h k =
       under_fit n _ _ _ _ _
       (did_fit b (with_register (rt g.ir) g.bar g) (puts g (rt g.ir) g.bar h.bar h) k)
@@ -274,7 +275,7 @@ module _ (law : WordsStayWords) where
       (did_fit b (with_register (rt g.ir) g.epc g) (puts g (rt g.ir) g.epc h.epc h) k)
       (met_fit b f.Ri g h k)
 
-  to_fit : (b : Book) (g : Regs) (n : ℕ) → Words g → ((x : ℕ) → b.bytes x < 256) → Good (to_system b g n)
+  to_fit : (b : Book) (g : Regs) (n : ℕ) → HoldsWords g → ((x : ℕ) → b.bytes x < 256) → Good (to_system b g n)
   to_fit b g n h k =
       under_fit n _ (to_sr b g) _ _ _
       (did_fit b (with_bar (reg g (rt g.ir)) g) (with_bar_lem g _ (rtw h) h) k)
@@ -284,13 +285,13 @@ module _ (law : WordsStayWords) where
       (met_fit b f.Ri g h k)
 
   -- a result that may overflow
-  checked_fit : (b : Book) (over : Bool) (n v : ℕ) (g : Regs) → v < 2 ^ 32 → Words g → ((x : ℕ) → b.bytes x < 256)
+  checked_fit : (b : Book) (over : Bool) (n v : ℕ) (g : Regs) → v < 2 ^ 32 → HoldsWords g → ((x : ℕ) → b.bytes x < 256)
       → Good (cond over (with_fault b f.Ovf (with_ad v g)) (without_fault b (with_register n v (with_ad v g))))
   checked_fit b over n v g small h k =
-      let placed : Words (with_ad v g) =
+      let placed : HoldsWords (with_ad v g) =
       with_ad_lem g v small h in pick Good over (met_fit b f.Ovf _ placed k) (did_fit b _ (puts _ n v small placed) k)
 
-  done_fit : (r : Refusals) (b : Book) (i : Instruction) (g : Regs) → Words g → ((x : ℕ) → b.bytes x < 256)
+  done_fit : (r : Refusals) (b : Book) (i : Instruction) (g : Regs) → HoldsWords g → ((x : ℕ) → b.bytes x < 256)
       → Good (effect_of r b i g)
   done_fit r b (Instruction.shift_fixed op) g h k =
       did_fit b _ (puts g _ _ (law.results op _ _ (rtw h) (shift_small g.ir)) h) k
@@ -310,7 +311,7 @@ module _ (law : WordsStayWords) where
   done_fit r b Instruction.move_to_lo g h k = did_fit b _ (with_lo_lem g _ (rsw h) h) k
   done_fit r b Instruction.jump_register g h k = goes_fit b _ g (rsw h) h k
   done_fit r b Instruction.jump_link_register g h k =
-      let l : Words (with_register (rd g.ir) g.pc g) =
+      let l : HoldsWords (with_register (rd g.ir) g.pc g) =
       puts g _ _ h.pc h in goes_fit b _ (with_register (rd g.ir) g.pc g) (l.general (rs g.ir)) l k
   done_fit r b Instruction.system_call g h k = met_fit b f.Sys g h k
   done_fit r b Instruction.breakpoint g h k = met_fit b f.Brk g h k
@@ -354,9 +355,9 @@ module _ (law : WordsStayWords) where
   done_fit r b Instruction.unassigned_opcode g h k = met_fit b f.Ri g h k
   done_fit r b Instruction.unassigned_function g h k = met_fit b f.Ri g h k
 
-  enters_fit : (b : Book) (c epc : ℕ) → c < 16 → epc < 2 ^ 32 → Fit b → Good (entry_of b c epc)
+  enters_fit : (b : Book) (c epc : ℕ) → c < 16 → epc < 2 ^ 32 → IsFit b → Good (entry_of b c epc)
   enters_fit b c epc few small fit =
-      let h : Words b.regs = fit.words in
+      let h : HoldsWords b.regs = fit.words in
       record {
         words =
             record {
@@ -375,9 +376,9 @@ module _ (law : WordsStayWords) where
         bytes = fit.bytes;
       }
 
-  made_fit : (r : Refusals) (b : Book) (e : Event) → Fit b → Good (before_fetch r b e)
+  made_fit : (r : Refusals) (b : Book) (e : Event) → IsFit b → Good (before_fetch r b e)
   made_fit r b Event.reset fit =
-      let h : Words b.regs = fit.words in
+      let h : HoldsWords b.regs = fit.words in
       did_fit b _ (with_sr_lem _ 0 (omega arith) (with_pc_lem b.regs _ (omega arith) h)) fit.bytes
   made_fit r b (Event.exception c) fit = enters_fit b (fault_code c) _ (law.codes c) (below _) fit
   made_fit r b Event.interrupt fit = enters_fit b 0 b.regs.pc (omega arith) fit.words.pc fit

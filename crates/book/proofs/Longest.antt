@@ -5,7 +5,7 @@ use Rattle.machine.specs.Ledger.{blank_ledger}
 use Rattle.machine.specs.Registers.{Regs, zero_regs}
 use Rattle.book.specs.Book.{Book, Event, with_risen_pc}
 use Rattle.book.specs.Instruction.{Instruction, instruction_of}
-use Rattle.book.specs.Length.{LongestStep, instruction_length, length_of, system_move_length}
+use Rattle.book.specs.Length.{IsLongestStep, instruction_length, length_of, system_move_length}
 
 -- from one to seven
 record Few (n : ℕ) : Type 0 where
@@ -91,7 +91,7 @@ linking =
       event = Event.run;
     }
 
-pub longest : LongestStep 7
+pub longest : IsLongestStep 7
 unfolding linking
 longest =
     record {

@@ -10,7 +10,7 @@ use Rattle.machine.specs.Fault.{fault_code}
 use Rattle.machine.specs.Interrupt.{cr_on_entry, cr_with_lines, is_interrupting, is_resetting, sr_on_entry}
 use Rattle.machine.specs.Interrupt.{sr_on_return}
 use Rattle.machine.specs.Ledger.{blank_ledger, with_entry}
-use Rattle.machine.specs.Operation.{integer_of, overflow, result_of}
+use Rattle.machine.specs.Operation.{integer_of, overflows, result_of}
 use Rattle.machine.specs.Registers.{Regs, reg, with_ad, with_bar, with_cr, with_epc, with_hi, with_ir, with_lo}
 use Rattle.machine.specs.Registers.{with_pc, with_register, with_sr, zero_regs}
 use Rattle.machine.specs.Word.{branch_offset, immediate, jump_address, rd, rs, rt, shift_amount, signed_immediate}
@@ -72,7 +72,7 @@ abbrev pub jump_to : Book → ℕ → Regs → Effect
 jump_to b t g =
     cond (is_misplaced 4 g.sr t) (with_fault b f.Adel (with_ad t g)) (without_fault b (with_pc t (with_ad t g)))
 
--- a branch goes to the address after it plus the distance
+-- a branch that is taken goes to the address after it plus the offset
 abbrev pub branch_if : Book → Bool → Regs → Effect
 branch_if b taken g = cond taken (jump_to b ((g.pc + branch_offset g.ir) % 2 ^ 32) g) (without_fault b g)
 
@@ -122,7 +122,7 @@ store_with r b bad size' g =
       event_sr = g.sr;
     }))
 
--- what only the system may do
+-- what meets CPU in user mode
 abbrev pub unless_user_mode : Book → Regs → Effect → Effect
 unless_user_mode b g m = cond (is_user_mode g.sr) (with_fault b f.Cpu g) m
 
@@ -172,7 +172,7 @@ effect_of r b (Instruction.compute op) g =
     without_fault b (with_register (rd g.ir) (result_of op (rs_value g) (rt_value g)) (with_ad (rt_value g) g))
 effect_of r b (Instruction.compute_checked op) g =
     let v : ℕ = result_of op (rs_value g) (rt_value g) in
-    cond (overflow op (rs_value g) (rt_value g)) (with_fault b f.Ovf (with_ad v g))
+    cond (overflows op (rs_value g) (rt_value g)) (with_fault b f.Ovf (with_ad v g))
     (without_fault b (with_register (rd g.ir) v (with_ad v g)))
 effect_of r b (Instruction.compute_pair low high) g =
     let low_word : ℕ = result_of low (rs_value g) (rt_value g) in
@@ -202,7 +202,7 @@ effect_of r b (Instruction.branch_not_below link) g =
     let h : Regs = with_link link g in branch_if b (int_le (pos 0) (integer_of (reg h (rs g.ir)))) h
 effect_of r b Instruction.add_immediate g =
     let v : ℕ = result_of Sum (rs_value g) (signed_immediate g.ir) in
-    cond (overflow Sum (rs_value g) (signed_immediate g.ir)) (with_fault b f.Ovf (with_ad v g))
+    cond (overflows Sum (rs_value g) (signed_immediate g.ir)) (with_fault b f.Ovf (with_ad v g))
     (without_fault b (with_register (rt g.ir) v (with_ad v g)))
 effect_of r b (Instruction.compute_signed op) g =
     let v : ℕ = signed_immediate g.ir in

@@ -4,7 +4,7 @@ use Rattle.machine.specs.Registers.{Regs, reg}
 use Rattle.book.specs.Book.{Book, Refusals, first_state, step}
 
 -- registers hold words
-pub record Words (g : Regs) : Type 0 where
+pub record HoldsWords (g : Regs) : Type 0 where
   pub general : (n : ℕ) → reg g n < 2 ^ 32
   pub pc : g.pc < 2 ^ 32
   pub hi : g.hi < 2 ^ 32
@@ -17,14 +17,14 @@ pub record Words (g : Regs) : Type 0 where
   pub ir : g.ir < 2 ^ 32
 
 -- a state of the book whose registers hold words and whose bytes are bytes
-pub record Fit (b : Book) : Type 0 where
-  pub words : Words b.regs
+pub record IsFit (b : Book) : Type 0 where
+  pub words : HoldsWords b.regs
   pub bytes : (address : ℕ) → b.bytes address < 256
 
 -- every step keeps that, so every state of the book that begins so stays so
 abbrev pub StepsFit : Type 0
-StepsFit = (r : Refusals) (lines : ℕ) (b : Book) → Fit b → Fit (step r lines b)
+StepsFit = (r : Refusals) (lines : ℕ) (b : Book) → IsFit b → IsFit (step r lines b)
 
 -- and it begins so over any bytes
 abbrev pub BeginsFit : Type 0
-BeginsFit = (bytes : ℕ → ℕ) → ((address : ℕ) → bytes address < 256) → Fit (first_state bytes)
+BeginsFit = (bytes : ℕ → ℕ) → ((address : ℕ) → bytes address < 256) → IsFit (first_state bytes)

@@ -63,7 +63,7 @@ length_of b Event.interrupt = 4
 length_of b Event.run = instruction_length (instruction_of b.regs.ir) (with_risen_pc b)
 
 -- each step takes a cycle at least, none takes more than so many, and some step takes as many
-pub record LongestStep (n : ℕ) : Type 0 where
+pub record IsLongestStep (n : ℕ) : Type 0 where
   pub some : (b : Book) (v : Event) → 0 < length_of b v
   pub bounded : (b : Book) (v : Event) → length_of b v ≤ n
   pub reached : (b : Book) × (v : Event) × (length_of b v ≡ n)

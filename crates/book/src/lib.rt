@@ -2,4 +2,5 @@
 
 #![tactic(auto)]
 
-pub mod law;
+pub mod cases;
+pub mod length;

@@ -31,7 +31,7 @@ pub trait Bus {
         ensures { result ≡ (means self.now).longest };
 
     /// The theorem that each step keeps points 1 to 4 of the bus (docs/BUS.md); point 5 is the clause of `look`.
-    /// Who calls it has its contract.
+    /// A caller gets it from the contract.
     fn keeps()
         ensures { Keeps means steps };
 }

@@ -58,7 +58,7 @@ pub struct Access {
 }
 
 impl Access {
-    /// The rules' word for it.
+    /// Whether kind and address agree.
     pub fn same(self, other: Access) -> bool
         ensures { result ≡ same_access self other }
     {
@@ -77,8 +77,7 @@ impl Request {
         }
     }
 
-    /// Asks to write the low bits of the data. Width, address and data are what a write is: no struct has them before
-    /// there is a request.
+    /// Asks to write the low bits of the data.
     pub fn write(width: Width, address: u32, data: u32) -> Request
         ensures { result ≡ write_of width address «data» }
     {
@@ -98,8 +97,7 @@ impl Request {
     }
 }
 
-/// The bus's own three words, and so no `Option` of a `Result`. `Done` carries the word that a read found, and 0 after
-/// a write.
+/// The three answers. `Done` carries the word that a read found, and 0 after a write.
 #[derive(Clone, Copy, PartialEq, Eq)]
 pub enum Answer {
     Wait,

@@ -47,8 +47,8 @@ pub fn settle<B: Bus>(bus: &mut B, request: Request) -> Settled
     unreachable()
 }
 
-/// A theorem: where a memory's meaning decides how it goes on, it decides what waiting out leaves. Who calls it has its
-/// contract.
+/// A theorem: where a memory's meaning decides how it goes on, it decides what waiting out leaves. A caller gets it
+/// from the contract.
 pub fn settles_as_decided<B: Bus>()
     ensures { SettlesAsDecided B.Bus.means B.Bus.steps }
 {}

@@ -4,13 +4,14 @@ use bus::memory::Bus;
 use bus::request::{Request, Width};
 use bus::settle::settle;
 use layers::delay::Delay;
-use pile::job::Memories;
+use pile::pile::Memories;
 use r3000::cpu::Core;
 use r3000::limits::REGISTERS;
 use std::alloc::{AllocError, Global};
 use std::test::Fail;
 
-/// Addresses and words: a loop that counts, multiplies, stores and loads; and a handler that counts interrupts.
+/// Addresses and words: a loop that counts, multiplies, stores and loads; and a handler that counts interrupts. A line
+/// is up at one boundary alone, so no second interrupt can come between RFE and JR.
 const FIRMWARE: [(u32, u32); 18] = [
     (0xBFC0_0000, 0x3C02_8000), // lui   $2, 8000
     (0xBFC0_0004, 0x3401_0401), // ori   $1, $0, 0401

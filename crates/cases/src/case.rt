@@ -3,10 +3,10 @@
 ghost use Rattle.std.specs.Prelude.{◌≡◌, IsTrue, ◌↔◌, []};
 ghost use Rattle.replies.specs.Replies.{answer_text};
 
-use pile::job::Memories;
+use pile::pile::Memories;
 use replies::Replies;
 use std::alloc::Global;
-use text::writing::text;
+use text::writing::reply_text;
 
 /// A job, and its replies as the rules give them.
 #[derive(Drop)]
@@ -42,7 +42,7 @@ pub fn holds(job: &[u8], replies: &[u8]) -> bool
     let mut memories = Memories::zeroed();
     let mut rest = replies;
     for reply in Replies::new(&mut memories, job) {
-        match rest.strip_prefix(text(reply).as_slice()) {
+        match rest.strip_prefix(reply_text(reply).as_slice()) {
             Some(after) => rest = after,
             None => return false,
         }

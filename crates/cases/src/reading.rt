@@ -1,10 +1,12 @@
 //! Reading a file of cases. `data/README.md` says what its lines are.
 
 ghost use Rattle.std.specs.Prelude.{◌≡◌, ◌++◌, ◌∷◌, ◌⊎◌, [], OnErr, OnOk};
+ghost use Rattle.text.specs.Form.{line_end};
 
 use super::case::Case;
 use anyhow::{Context, Result, ensure};
 use std::alloc::{AllocError, Global};
+use text::form::LINE_END;
 
 /// The cases of a file.
 pub(crate) fn read(heap: Global, text: &str) -> Result<Vec<Case<'_>>> {
@@ -90,12 +92,12 @@ fn add_reply(case: &mut Case<'_>, reply: Option<&str>) -> Result<()> {
 
 /// Appends a line and its end.
 fn end_line(job: &mut Vec<u8>, line: &str) -> Result<(), AllocError>
-    ensures ok { OnOk result (job.new.items ≡ job.old.items ++ line.now ++ 10 ∷ []) }
+    ensures ok { OnOk result (job.new.items ≡ job.old.items ++ line.now ++ line_end ∷ []) }
     ensures err { OnErr result
         ((job.new.items ≡ job.old.items) ⊎ (job.new.items ≡ job.old.items ++ line.now)) }
 {
     job.extend_from_slice(line.as_bytes())?;
-    job.push(b'\n')?;
+    job.push(LINE_END)?;
     Ok(())
 }
 

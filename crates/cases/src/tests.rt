@@ -2,10 +2,10 @@
 
 use super::case::holds;
 use super::reading::read;
-use super::report::compare;
+use super::report::{Tally, tally_of, verdict};
 use jobs::whole::last_reply;
-use pile::job::Memories;
-use replies::example::first_job;
+use pile::pile::Memories;
+use replies::example::{Example, worked_example};
 use std::test::Fail;
 use text::reply::Reply;
 
@@ -43,7 +43,7 @@ fn a_file_of_cases(rt: HostRuntime) -> Result<(), Fail> {
     );
     assert_eq!(rt; (first.name, first.line), ("first", 3));
     assert_eq!(rt; (second.name, second.line), ("second", 12));
-    let tally = compare(&rt, "FILE", &cases)?;
+    let tally = tally_of(&cases);
     assert_eq!(rt; (tally.cases, tally.differ), (2, 1));
     Ok(())
 }
@@ -89,13 +89,13 @@ fn the_most_lines(rt: HostRuntime) -> Result<(), Fail> {
 
 #[test]
 fn the_example(rt: HostRuntime) {
-    let example = first_job();
-    assert!(rt; holds(example.job, example.replies));
+    let Example { job, replies } = worked_example();
+    assert!(rt; holds(job, replies));
 }
 
 #[test]
 fn the_last_reply(rt: HostRuntime) {
     let mut memories = Memories::zeroed();
-    let last = last_reply(memories.pile(), first_job().job);
+    let last = last_reply(memories.pile(), worked_example().job);
     assert!(rt; matches!(last, Some(Reply::Shown(1, 0x1234_0000))));
 }

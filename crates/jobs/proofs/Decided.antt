@@ -4,8 +4,9 @@ use Rattle.bus.specs.Decided.{IsDecided, SettlesAsDecided}
 use Rattle.bus.specs.Meaning.{Meaning}
 use Rattle.bus.specs.declared.request.Answer.{Answer}
 use Rattle.bus.specs.declared.request.Request.{Request}
-use Rattle.jobs.specs.Decided.{Sight, early_answer, early_turn, line_answer, late_answer, late_result, order_answer}
-use Rattle.jobs.specs.Decided as sight
+use Rattle.jobs.specs.Decided.{StageMeaning, early_answer, early_turn, line_answer, late_answer, late_result}
+use Rattle.jobs.specs.Decided.{order_answer}
+use Rattle.jobs.specs.Decided as by_meaning
 use Rattle.jobs.specs.Decision.{EarlyEffect, LateEffect, decision, make_cycles, power_up, reply_with, set_lines}
 use Rattle.jobs.specs.Decision as effect
 use Rattle.jobs.specs.Job.{AnswersLine, line_replies}
@@ -21,7 +22,7 @@ use Rattle.jobs.specs.Station.{
   load_reply,
   loading,
   running,
-  store_request,
+  load_request,
 }
 use Rattle.jobs.specs.declared.fault.JobFault.{JobFault}
 use Rattle.r3000.specs.Decided.{CyclesAsDecided, core_meaning}
@@ -31,18 +32,18 @@ use Rattle.text.specs.declared.order.Order.{Order}
 use Rattle.text.specs.declared.reply.Reply.{Reply}
 
 -- a stage, with what its memory means in the memory's place
-abbrev pub shown : {S : Type 0} → (S → Meaning) → Stage S → Sight
-shown means (loading s) = sight.loading (means s)
-shown means (running s c) = sight.running (core_meaning means c)
+abbrev pub shown : {S : Type 0} → (S → Meaning) → Stage S → StageMeaning
+shown means (loading s) = by_meaning.loading (means s)
+shown means (running s c) = by_meaning.running (core_meaning means c)
 
 module _ {S : Type 0} {means : S → Meaning} {steps : S → Request → Answer → S → Type 0}
     (settles : SettlesAsDecided means steps) (cycles : CyclesAsDecided means steps)
     (next : Meaning → Request → Meaning) (decided : IsDecided means steps next) where
   early_does : (s : S) (x : EarlyEffect) (r : Result Reply JobFault) (e : Stage S) → EarlyDoes means steps s x r e
       → (r ≡ (early_turn next (means s) x).reply) × (shown means e ≡ (early_turn next (means s) x).then)
-  early_does s (effect.store address word) r e h = (
+  early_does s (effect.load_word address word) r e h = (
     h.3 ∙ ap (λ o. load_reply (load_result o)) h.2.ends,
-    ap (shown means) h.4 ∙ ap sight.loading (settles next decided s (store_request address word) h.0 h.1 h.2),
+    ap (shown means) h.4 ∙ ap by_meaning.loading (settles next decided s (load_request address word) h.0 h.1 h.2),
   )
   early_does s power_up r e h = (h.0, ap (shown means) h.1)
 
@@ -64,11 +65,11 @@ module _ {S : Type 0} {means : S → Meaning} {steps : S → Request → Answer 
   late_answers : (c d : Machine S) (x : Result LateEffect JobFault) (r : Result Reply JobFault)
       → LateAnswers means steps c x r d
       → (r ≡ (late_answer next (core_meaning means c) x).reply)
-      × (sight.running (core_meaning means d) ≡ (late_answer next (core_meaning means c) x).then)
-  late_answers c d (Err f) r h = (h.0, ap (λ m. sight.running (core_meaning means m)) h.1)
+      × (by_meaning.running (core_meaning means d) ≡ (late_answer next (core_meaning means c) x).then)
+  late_answers c d (Err f) r h = (h.0, ap (λ m. by_meaning.running (core_meaning means m)) h.1)
   late_answers c d (Ok x) r h =
       let done = late_does c d x h.0 h.2 in
-      (h.1 ∙ ap Ok done.0, ap sight.running done.1)
+      (h.1 ∙ ap Ok done.0, ap by_meaning.running done.1)
 
   answers_order : (e g : Stage S) (o : Order) (r : Result Reply JobFault) → AnswersOrder means steps e o r g
       → (r ≡ (order_answer next (shown means e) o).reply)

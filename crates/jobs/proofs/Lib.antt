@@ -1,6 +1,6 @@
-mod Coming
+mod NextReply
 mod Decided
 mod Late
-mod Lines
+mod TextLines
 mod Promised
 mod Taken

@@ -22,7 +22,7 @@ module _ {S : Type 0} {means : S → Meaning} {steps : S → Request → Answer 
   -- and so does a core that was just built
   early_does : (s : S) (x : EarlyEffect) (r : Result Reply JobFault) (e : Stage S) → EarlyDoes means steps s x r e
       → StageIsPromised means steps e
-  early_does s (effect.store address word) r e h = subst (StageIsPromised means steps) (sym h.4) tt
+  early_does s (effect.load_word address word) r e h = subst (StageIsPromised means steps) (sym h.4) tt
   early_does s power_up r e h =
       subst (StageIsPromised means steps) (sym h.1)
       (record { reached = IsReached.power_up; promise = kept s (core_at_power_up s) IsReached.power_up })

@@ -7,7 +7,7 @@ use Rattle.bus.specs.declared.request.Request.{Request}
 use Rattle.jobs.specs.Decision.{EarlyEffect, LateEffect, decision, make_cycles, power_up, reply_with, set_lines}
 use Rattle.jobs.specs.Decision as effect
 use Rattle.jobs.specs.Job.{line_replies, denial_reply, text_lines_of}
-use Rattle.jobs.specs.Station.{run_reply, load_result, load_reply, store_request}
+use Rattle.jobs.specs.Station.{run_reply, load_result, load_reply, load_request}
 use Rattle.jobs.specs.declared.fault.JobFault.{JobFault}
 use Rattle.jobs.specs.declared.fault.JobFault.TheVariants as fault
 use Rattle.r3000.specs.Decided.{after_cycles}
@@ -19,22 +19,22 @@ use Rattle.text.specs.declared.reply.Reply.{Reply}
 use Rattle.text.specs.declared.reply.Reply.TheVariants as reply
 
 -- where a job stands, with what a memory means in the memory's place: before the start a memory, after it a core
-pub data Sight : Type 0 where
-  loading : Meaning → Sight
-  running : Machine Meaning → Sight
+pub data StageMeaning : Type 0 where
+  loading : Meaning → StageMeaning
+  running : Machine Meaning → StageMeaning
 
 -- what is replied, and where the job then stands
 pub record Turn (A : Type 0) : Type 0 where
   pub reply : A
-  pub then : Sight
+  pub then : StageMeaning
 
 module _ (next : Meaning → Request → Meaning) where
   -- an effect before the start
   abbrev pub early_turn : Meaning → EarlyEffect → Turn (Result Reply JobFault)
-  early_turn m (effect.store address word) =
+  early_turn m (effect.load_word address word) =
       record {
-        reply = load_reply (load_result (outcome m (store_request address word)));
-        then = loading (meaning_after_settling next (store_request address word) m);
+        reply = load_reply (load_result (outcome m (load_request address word)));
+        then = loading (meaning_after_settling next (load_request address word) m);
       }
   early_turn m power_up = record { reply = Ok reply.Started; then = running (core_at_power_up m) }
 
@@ -54,18 +54,18 @@ module _ (next : Meaning → Request → Meaning) where
   late_answer c (Ok x) = record { reply = Ok (late_result c x).0; then = running (late_result c x).1 }
 
   -- an order
-  abbrev pub order_answer : Sight → Order → Turn (Result Reply JobFault)
+  abbrev pub order_answer : StageMeaning → Order → Turn (Result Reply JobFault)
   order_answer (loading m) o = early_answer m (decision o).before
   order_answer (running c) o = late_answer c ((decision o).after c.processor c.observation.report)
 
   -- a line that was read: denied by its form, or an order
-  abbrev pub line_answer : Sight → ℕ → Result Order LineFault → Turn (List Reply)
+  abbrev pub line_answer : StageMeaning → ℕ → Result Order LineFault → Turn (List Reply)
   line_answer e n (Err f) = record { reply = line_replies n (Err (fault.Line f)); then = e }
   line_answer e n (Ok o) = let turn = order_answer e o in
       record { reply = line_replies n turn.reply; then = turn.then }
 
   -- the replies to lines one after another, numbered
-  abbrev pub replies_to_lines : Sight → ℕ → List (List ℕ) → List Reply
+  abbrev pub replies_to_lines : StageMeaning → ℕ → List (List ℕ) → List Reply
   replies_to_lines e n [] = []
   replies_to_lines e n (l ∷ ls) = let turn = line_answer e n (read_line l) in
       turn.reply ++ replies_to_lines turn.then (n + 1) ls

@@ -15,7 +15,7 @@ use Rattle.text.specs.declared.reply.Reply.TheVariants as reply
 -- the effect of a line before the start
 pub data EarlyEffect : Type 0 where
   -- a word is written to an address, and waited out
-  store : ℕ → ℕ → EarlyEffect
+  load_word : ℕ → ℕ → EarlyEffect
   -- a core is built on the memory
   power_up : EarlyEffect
 
@@ -41,7 +41,7 @@ pub record Decision : Type 0 where
 -- the table
 abbrev pub decision : Order → Decision
 decision (order.Load address word) =
-    record { before = Ok (store address word); after = λ p counts. Err fault.AfterStart }
+    record { before = Ok (load_word address word); after = λ p counts. Err fault.AfterStart }
 decision order.Start = record { before = Ok power_up; after = λ p counts. Err fault.AfterStart }
 decision (order.SetLines n) =
     record { before = Err fault.BeforeStart; after = λ p counts. effect_if_granted (λ u. set_lines n) (lines_reply n) }

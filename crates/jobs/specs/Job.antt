@@ -5,6 +5,7 @@ use Rattle.bus.specs.Meaning.{Meaning}
 use Rattle.bus.specs.declared.request.Answer.{Answer}
 use Rattle.bus.specs.declared.request.Request.{Request}
 use Rattle.jobs.specs.Fault.{denial_address, denial_number}
+use Rattle.text.specs.Form.{line_end}
 use Rattle.text.specs.Reading.{read_line}
 use Rattle.text.specs.declared.fault.LineFault.{LineFault}
 use Rattle.jobs.specs.Station.{StageIsPromised, AnswersOrder, Stage, loading}
@@ -14,7 +15,7 @@ use Rattle.text.specs.declared.order.Order.{Order}
 use Rattle.text.specs.declared.reply.Reply.{Reply}
 use Rattle.text.specs.declared.reply.Reply.TheVariants as reply
 
--- a byte begins the first line
+-- lines with a byte put in front of the first
 abbrev pub with_first_byte : ℕ → List (List ℕ) → List (List ℕ)
 with_first_byte b [] = (b ∷ []) ∷ []
 with_first_byte b (l ∷ ls) = (b ∷ l) ∷ ls
@@ -22,7 +23,7 @@ with_first_byte b (l ∷ ls) = (b ∷ l) ∷ ls
 -- the lines of a job: byte 0A ends each, and the last may lack it
 abbrev pub text_lines_of : List ℕ → List (List ℕ)
 text_lines_of [] = []
-text_lines_of (b ∷ bs) = cond (b == 10) ([] ∷ text_lines_of bs) (with_first_byte b (text_lines_of bs))
+text_lines_of (b ∷ bs) = cond (b == line_end) ([] ∷ text_lines_of bs) (with_first_byte b (text_lines_of bs))
 
 -- the reply to a denied line
 abbrev pub denial_reply : ℕ → JobFault → Reply

@@ -1,4 +1,4 @@
-pub mod Coming
+pub mod NextReply
 pub mod Decided
 pub mod Decision
 pub mod Fault

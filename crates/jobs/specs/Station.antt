@@ -30,8 +30,8 @@ pub data Stage (S : Type 0) : Type 0 where
   running : S → Machine S → Stage S
 
 -- a load writes the word
-abbrev pub store_request : ℕ → ℕ → Request
-store_request address word = write_of Word address word
+abbrev pub load_request : ℕ → ℕ → Request
+load_request address word = write_of Word address word
 
 -- a refusal of the bus becomes a load's fault, with its address
 abbrev pub load_result : Result ℕ BusFault → Result (Unit {0}) LoadFault
@@ -50,8 +50,8 @@ run_reply n = reply.Ran (record { cycles = n.cycles; frozen = n.frozen; boundari
 module _ {S : Type 0} (means : S → Meaning) (steps : S → Request → Answer → S → Type 0) where
   -- an effect before the start, on a memory
   abbrev pub EarlyDoes : S → EarlyEffect → Result Reply JobFault → Stage S → Type 0
-  EarlyDoes s (effect.store address word) r e =
-      (q : Settled) × (t : S) × Settles means steps s (store_request address word) q t
+  EarlyDoes s (effect.load_word address word) r e =
+      (q : Settled) × (t : S) × Settles means steps s (load_request address word) q t
       × (r ≡ load_reply (load_result q.outcome))
       × (e ≡ loading t)
   EarlyDoes s power_up r e = (r ≡ Ok reply.Started) × (e ≡ running s (core_at_power_up s))
@@ -95,7 +95,8 @@ stage_of_station s h x = elim x.processor [
   | None ↦ loading x.pile
 ]
 
--- whatever is behind a station, something happens to it, and that is then behind it too; and the promise is upheld
+-- what happens to a station: whatever history it has behind it, R holds of its stage before and its stage after, with
+-- some history behind that; and where the stage before could be reached, the promise holds of the stage after
 abbrev pub StationDoes : {B : Type 0} → (B → Meaning) → (B → Request → Answer → B → Type 0)
     → (Stage B → Stage B → Type 0)
     → Station B → Station B → Type 0

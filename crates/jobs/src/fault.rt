@@ -25,7 +25,7 @@ impl From<BusFault> for LoadFault {
 
 #[derive(Clone, Copy)]
 pub enum JobFault {
-    /// The job has more than 65,536 bytes.
+    /// The job has more bytes than `MAX_JOB`.
     TooLong,
     /// The line has no meaning.
     Line(LineFault),

@@ -17,7 +17,8 @@ use text::reply::Reply;
 
 /// A job at work on a pile: an iterator over the replies that are still to come. Nothing is allocated.
 ///
-/// Its lines are done as its replies are asked for. A job of more than 65,536 bytes has one reply, and does nothing.
+/// Its lines are done as its replies are asked for. A job of more than `MAX_JOB` bytes has one reply, and does
+/// nothing.
 #[derive(Drop)]
 pub struct Job<'a, B> {
     /// A reply that is given before the next line is done.
@@ -30,15 +31,15 @@ pub struct Job<'a, B> {
     processor: Option<Processor>,
     /// The number of the next line, from 1.
     number: u32,
-    lines: TextLines<'a>,
-    ghost few: { number + length (text_lines_of lines.0.now) ≤ max_job + 1 },
+    text_lines: TextLines<'a>,
+    ghost few: { number + length (text_lines_of text_lines.0.now) ≤ max_job + 1 },
 }
 
 impl<'a, B: Bus> Job<'a, B> {
     ghost use Rattle.bus.specs.Meaning.{Meaning};
     ghost use Rattle.bus.specs.declared.request.Request.{Request};
     ghost use Rattle.r3000.specs.Machine.{History};
-    ghost use Rattle.jobs.specs.Coming.{standing_of, replies_to_come};
+    ghost use Rattle.jobs.specs.NextReply.{standing_of, replies_to_come};
     ghost use Rattle.jobs.specs.Decided.{replies_to_job};
     ghost use Rattle.jobs.specs.Job.{first_standing};
 
@@ -55,7 +56,7 @@ impl<'a, B: Bus> Job<'a, B> {
             pile: Some(pile),
             processor: None,
             number: 1,
-            lines: TextLines(if too_long { &[] } else { bytes }),
+            text_lines: TextLines(if too_long { &[] } else { bytes }),
         }
     }
 }
@@ -63,13 +64,14 @@ impl<'a, B: Bus> Job<'a, B> {
 impl<'a, B: Bus + Drop> Iterator for Job<'a, B> {
     ghost use Rattle.std.specs.Prelude.{◌+◌, length, option_to_list};
     ghost use Rattle.std.specs.Iterator.{at_most};
-    ghost use Rattle.jobs.specs.Coming.{NextGives, lines_left};
+    ghost use Rattle.jobs.specs.NextReply.{NextGives, text_lines_left};
 
     type Item = Reply;
 
     ghost next_gives = { NextGives B.Bus.means B.Bus.steps };
 
-    ghost remaining = { λ x. at_most (length (option_to_list x.due) + length (lines_left x.pile x.lines.0.now)) };
+    ghost remaining = { λ x. at_most (length (option_to_list x.due)
+        + length (text_lines_left x.pile x.text_lines.0.now)) };
 
     fn next(&mut self) -> Option<Reply> {
         promise::<B>();
@@ -78,7 +80,7 @@ impl<'a, B: Bus + Drop> Iterator for Job<'a, B> {
         if let Some(reply) = self.due.take() {
             return Some(reply);
         }
-        let line = self.lines.next()?;
+        let line = self.text_lines.next()?;
         let station = Station {
             pile: self.pile.take()?,
             processor: self.processor,

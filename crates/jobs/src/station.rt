@@ -9,7 +9,7 @@ ghost use Rattle.bus.specs.declared.settle.Settled.{Settled};
 ghost use Rattle.jobs.specs.Decision.{decision};
 ghost use Rattle.jobs.specs.Job.{AnswersLine, denial_reply};
 ghost use Rattle.jobs.specs.Station.{EarlyAnswers, StationDoes, LateAnswers, AnswersOrder, run_reply, load_result};
-ghost use Rattle.jobs.specs.Station.{load_reply, loading, running, stage_of_station, store_request};
+ghost use Rattle.jobs.specs.Station.{load_reply, loading, running, stage_of_station, load_request};
 ghost use Rattle.text.specs.Reading.{read_line};
 
 use super::fault::{JobFault, LoadFault};
@@ -21,7 +21,7 @@ use r3000::processor::Processor;
 use r3000::promise::promise;
 use r3000::report::Report;
 use text::order::Order;
-use text::reading::read;
+use text::reading::read_line;
 use text::reply::{Counts, Denied, Reply};
 
 /// A pile, and the processor that runs on it from the start on.
@@ -35,7 +35,7 @@ pub(crate) struct Station<B> {
 /// Writes a word, and waits it out. A refusal of the bus becomes the load's fault.
 fn write<B: Bus>(pile: &mut B, address: u32, word: u32) -> Result<(), LoadFault>
     ensures { (q : Settled)
-        × Settles B.Bus.means B.Bus.steps pile.old (store_request address word) q pile.new
+        × Settles B.Bus.means B.Bus.steps pile.old (load_request address word) q pile.new
         × (result ≡ load_result q.outcome) }
 {
     settle(pile, Request::write(Width::Word, address, word)).outcome?;
@@ -45,7 +45,7 @@ fn write<B: Bus>(pile: &mut B, address: u32, word: u32) -> Result<(), LoadFault>
 /// Loads a word. The load's fault goes up as the line's.
 fn load<B: Bus>(pile: &mut B, address: u32, word: u32) -> Result<Reply, JobFault>
     ensures { (q : Settled)
-        × Settles B.Bus.means B.Bus.steps pile.old (store_request address word) q pile.new
+        × Settles B.Bus.means B.Bus.steps pile.old (load_request address word) q pile.new
         × (result ≡ load_reply (load_result q.outcome)) }
 {
     write(pile, address, word)?;
@@ -152,7 +152,7 @@ impl<B: Bus> Station<B> {
             result.0 }
     {
         promise::<B>();
-        let (station, end) = match read(line) {
+        let (station, end) = match read_line(line) {
             Ok(order) => self.do_order(order),
             Err(fault) => (self, Err(fault.into())),
         };

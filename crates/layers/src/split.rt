@@ -29,7 +29,7 @@ impl<A: Bus, B: Bus> Split<A, B> {
 
 impl<A, B> Split<A, B> {
     /// Whether an address is the first memory's.
-    fn is_low(&self, address: u32) -> bool
+    fn is_first(&self, address: u32) -> bool
         ensures { result ≡ nat_lt address (word_of self.now.mark) }
     {
         address < word_of(self.mark)
@@ -42,7 +42,7 @@ impl<A: Bus, B: Bus> Bus for Split<A, B> {
     ghost steps = { SplitSteps A.Bus.steps B.Bus.steps };
 
     fn request(&mut self, q: Request) -> Answer {
-        if self.is_low(q.address) {
+        if self.is_first(q.address) {
             self.first.request(q)
         } else {
             self.second.request(q)
@@ -50,7 +50,7 @@ impl<A: Bus, B: Bus> Bus for Split<A, B> {
     }
 
     fn look(&self, address: u32) -> Option<u8> {
-        if self.is_low(address) {
+        if self.is_first(address) {
             self.first.look(address)
         } else {
             self.second.look(address)

@@ -24,7 +24,7 @@ impl<B: Bus> Window<B> {
 
 impl<B> Window<B> {
     /// The address below that an address of the window stands for; none from the limit up.
-    fn address_below(&self, address: u32) -> Option<u32>
+    fn checked_address_below(&self, address: u32) -> Option<u32>
         ensures { result
             ≡ (if nat_lt address (limit_address self.now.limit) then Some (address_below self.now.base address) else
             None) }
@@ -40,14 +40,14 @@ impl<B: Bus> Bus for Window<B> {
     ghost steps = { WindowSteps B.Bus.steps };
 
     fn request(&mut self, q: Request) -> Answer {
-        match self.address_below(q.address) {
+        match self.checked_address_below(q.address) {
             Some(address) => self.below.request(Request { address, ..q }),
             None => Answer::BusError,
         }
     }
 
     fn look(&self, address: u32) -> Option<u8> {
-        self.below.look(self.address_below(address)?)
+        self.below.look(self.checked_address_below(address)?)
     }
 
     fn longest_wait(&self) -> u16 {

@@ -1,3 +1,3 @@
 pub mod Integers
 mod Masks
-mod Words
+mod WordsStayWords

@@ -39,8 +39,8 @@ abbrev pub word_of_integer : ℤ → ℕ
 word_of_integer z = residue z (2 ^ 32)
 
 -- whether an integer is one that a word stands for
-abbrev pub fits : ℤ → Bool
-fits z = nat_lt (mag z) (2 ^ 31)
+abbrev pub fits_word : ℤ → Bool
+fits_word z = nat_lt (mag z) (2 ^ 31)
 
 abbrev pub one_if : Bool → ℕ
 one_if b = cond b 1 0
@@ -72,11 +72,11 @@ result_of Dsr x y =
     cond (y == 0) x (word_of_integer (integer_of x -ℤ int_div (integer_of x) (integer_of y) *ℤ integer_of y))
 
 -- signed overflow: a sum or a difference of integers that no word stands for; no other operation overflows
-abbrev pub overflow : Operation → ℕ → ℕ → Bool
-overflow Sum x y = not (fits (integer_of x +ℤ integer_of y))
-overflow Dif x y = not (fits (integer_of x -ℤ integer_of y))
-overflow _ x y = false
+abbrev pub overflows : Operation → ℕ → ℕ → Bool
+overflows Sum x y = not (fits_word (integer_of x +ℤ integer_of y))
+overflows Dif x y = not (fits_word (integer_of x -ℤ integer_of y))
+overflows _ x y = false
 
 -- the three things that an operation gives together: RES, signed overflow, and whether RES is zero
 abbrev pub box_output : Operation → ℕ → ℕ → ℕ × Bool × Bool
-box_output op x y = (result_of op x y, overflow op x y, (result_of op x y == 0))
+box_output op x y = (result_of op x y, overflows op x y, (result_of op x y == 0))

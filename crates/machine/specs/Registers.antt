@@ -51,7 +51,7 @@ zero_regs =
 abbrev pub reg : Regs → ℕ → ℕ
 reg g n = slice_index g.general n
 
--- the registers with one of them changed
+-- the registers with the general ones, or one of the others, changed
 abbrev pub with_general : List ℕ → Regs → Regs
 with_general v g = record g { general = v }
 

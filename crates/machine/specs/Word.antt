@@ -24,7 +24,7 @@ rt ir = field 16 ir
 abbrev pub rd : ℕ → ℕ
 rd ir = field 11 ir
 
--- the general register that one of these three names
+-- the number of the general register that one of these three names
 abbrev pub register_field : Field → ℕ → ℕ
 register_field Rs ir = rs ir
 register_field Rt ir = rt ir

@@ -1,4 +1,4 @@
-//! The bits of SR and CR, and of the lines.
+//! The bits of SR and CR, of the lines, and of addresses.
 
 /// SR bit 0: interrupts are let in.
 pub const SR_INTERRUPTS: u32 = 1;
@@ -6,7 +6,8 @@ pub const SR_INTERRUPTS: u32 = 1;
 /// SR bit 1: user mode.
 pub const SR_USER: u32 = 1 << 1;
 
-/// SR bits 5–0: the two bits above, as they are, as they were before the last entry, and before the one before.
+/// SR bits 5–0: the two bits above three times: as they are, as they were before the last entry, and as they were
+/// before the entry before that.
 pub const SR_STACK: u32 = 0x3F;
 
 /// SR bits 3–0, which a return writes.

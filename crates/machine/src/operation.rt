@@ -1,10 +1,10 @@
 //! The operation box.
 
 ghost use Rattle.std.specs.Prelude.{◌≡◌, Bool};
-ghost use Rattle.machine.specs.Operation.{box_output, overflow, result_of};
+ghost use Rattle.machine.specs.Operation.{box_output, overflows, result_of};
 ghost use Rattle.machine.specs.declared.operation.Operation.TheVariants.{Sra, Msl, Msh, Dsq, Dsr};
 
-/// The field ALU of a row.
+/// The operations of the box.
 #[derive(Clone, Copy)]
 pub enum Operation {
     Sum,
@@ -101,7 +101,7 @@ impl Operation {
 
     /// Signed overflow, which a sum or a difference alone can have.
     fn overflows(self, x: u32, y: u32) -> bool
-        ensures { result ≡ overflow self x y }
+        ensures { result ≡ overflows self x y }
     {
         match self {
             Operation::Sum => x.cast_signed().overflowing_add(y.cast_signed()).1,
@@ -112,7 +112,7 @@ impl Operation {
 }
 
 /// RES, signed overflow, and whether RES is zero.
-pub fn operate(operation: Operation, x: u32, y: u32) -> (u32, bool, bool)
+pub fn box_output(operation: Operation, x: u32, y: u32) -> (u32, bool, bool)
     ensures { result ≡ box_output operation x y }
 {
     let res = operation.result(x, y);

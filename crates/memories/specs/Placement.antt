@@ -24,8 +24,9 @@ abbrev pub is_in_bounds : ℕ → ℕ → Bool
 is_in_bounds base n = nat_le min_length n && nat_le n max_length && nat_le (base + n) (2 ^ 32)
 
 -- alignment is tried first
-abbrev pub placement : ℕ → ℕ → Result (Unit {0}) PlacementFault
-placement base n = cond (is_aligned base n) (cond (is_in_bounds base n) (Ok tt) (Err OutOfBounds)) (Err Unaligned)
+abbrev pub check_placement : ℕ → ℕ → Result (Unit {0}) PlacementFault
+check_placement base n =
+    cond (is_aligned base n) (cond (is_in_bounds base n) (Ok tt) (Err OutOfBounds)) (Err Unaligned)
 
 -- how many bytes stand at a base: all, or none where the placement is denied
 abbrev pub placed_length : ℕ → ℕ → ℕ

@@ -1,7 +1,7 @@
 //! Where a memory may stand.
 
 ghost use Rattle.std.specs.Prelude.{◌≡◌};
-ghost use Rattle.memories.specs.Placement.{denial_number, placed_length, placement};
+ghost use Rattle.memories.specs.Placement.{denial_number, placed_length, check_placement};
 
 /// The shortest memory, in bytes.
 pub const MIN_LENGTH: usize = 4;
@@ -29,13 +29,15 @@ impl PlacementFault {
 
 /// Checks whether a memory of `length` bytes may stand at `base`.
 pub fn check_placement(base: u32, length: usize) -> Result<(), PlacementFault>
-    ensures { result ≡ placement base length }
+    ensures { result ≡ check_placement base length }
 {
-    let unaligned = base % 4 != 0 || length % 4 != 0;
-    let too_long = length < MIN_LENGTH || length > MAX_LENGTH || base as usize + length > 1 << 32;
+    let unaligned = !base.is_multiple_of(4) || !length.is_multiple_of(4);
+    let out_of_bounds = length < MIN_LENGTH
+        || length > MAX_LENGTH
+        || base as usize + length > 1 << 32;
     if unaligned {
         Err(PlacementFault::Unaligned)
-    } else if too_long {
+    } else if out_of_bounds {
         Err(PlacementFault::OutOfBounds)
     } else {
         Ok(())

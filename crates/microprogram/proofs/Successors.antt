@@ -5,7 +5,7 @@ use Rattle.machine.specs.Interrupt.{is_interrupting, is_resetting}
 use Rattle.machine.specs.Operation.{one_if}
 use Rattle.machine.specs.Word.{bit, function, opcode, system_number}
 use Rattle.rows.specs.declared.row.Sequencing.TheVariants as s
-use Rattle.microprogram.specs.Bounds.{RowsListed, spread}
+use Rattle.microprogram.specs.Bounds.{RowsAreListed, spread}
 
 -- a spread has each of its numbers
 pub among : (from by n k : ℕ) → k < n → (m : ℕ) → m ≡ from + k * by → Contains (spread from by n) m
@@ -20,7 +20,7 @@ one : (b : Bool) → one_if b < 2
 one true = omega arith
 one false = omega arith
 
-pub rows_listed : RowsListed
+pub rows_listed : RowsAreListed
 rows_listed s.Next amic g res z lines flag = (0, omega arith, refl)
 rows_listed s.Decod amic g res z lines flag = among 256 4 64 (opcode g.ir) (omega arith) _ refl
 rows_listed s.Spec amic g res z lines flag = among 512 4 64 (function g.ir) (omega arith) _ refl

@@ -70,7 +70,7 @@ pub record IsLeast (b : Budget) : Type 0 where
   pub accesses : (c : Budget) → RowsEnd c → b.accesses ≤ c.accesses
 
 -- the row that follows is one of the listed successors, whatever the registers, the result, the lines and the flag
-abbrev pub RowsListed : Type 0
-RowsListed =
+abbrev pub RowsAreListed : Type 0
+RowsAreListed =
     (q : Sequencing) (amic : ℕ) (g : Regs) (res : ℕ) (zero? : Bool) (lines : ℕ) (flag : Bool)
     → Contains (successors q amic) (next_row q amic g res zero? lines flag)

@@ -12,7 +12,7 @@ use super::sequencing;
 use bus::request::{Answer, Request, Width};
 use machine::interrupt::{cr_code, cr_on_entry, sr_on_entry, sr_on_return};
 use machine::ledger::Ledger;
-use machine::operation::operate;
+use machine::operation::box_output;
 use machine::registers::Registers;
 use machine::word::Field;
 use rows::row::{Destination, OperandX, Row, Transfer};
@@ -109,12 +109,12 @@ impl Chip {
     }
 
     /// What the operation box gives in a row: RES, signed overflow, and whether RES is zero.
-    pub fn work(&self, row: Row) -> (u32, bool, bool)
+    pub fn row_output(&self, row: Row) -> (u32, bool, bool)
         ensures { result ≡ row_output row (chip_state self.now) }
     {
         let x = self.operand_x(row.x);
         let y = self.operand_y(row.y);
-        operate(row.operation, x, y)
+        box_output(row.operation, x, y)
     }
 
     /// The request that a row makes: none where a flag is up.
@@ -136,11 +136,17 @@ impl Chip {
         }
     }
 
-    /// The end of a cycle that is not frozen: what its row does with the work and with the answer to its request.
-    pub fn advance(&mut self, row: Row, lines: u8, work: (u32, bool, bool), answer: Option<Answer>)
-        ensures { chip_state self.new ≡ state_after row lines work answer (chip_state self.old) }
+    /// The end of a cycle that is not frozen: what its row does with its output and with the answer to its request.
+    pub fn advance(
+        &mut self,
+        row: Row,
+        lines: u8,
+        output: (u32, bool, bool),
+        answer: Option<Answer>,
+    )
+        ensures { chip_state self.new ≡ state_after row lines output answer (chip_state self.old) }
     {
-        let (res, overflow, zero) = work;
+        let (res, overflow, zero) = output;
         let evidence = Evidence {
             sr: self.registers.sr,
             res,

@@ -10,7 +10,7 @@ use Rattle.rows.specs.declared.row.Row.{Row}
 use Rattle.microprogram.specs.Cycle.{ends_path}
 use Rattle.book.specs.Book.{Book, Event, Refusals, after_fetch, before_fetch}
 use Rattle.book.specs.Length.{length_of}
-use Rattle.paths.specs.Instant.{World, tick, ticks, world_after_row}
+use Rattle.paths.specs.Instant.{World, world_after_cycle, world_after_cycles, world_after_row}
 use Rattle.paths.specs.Path.{AtEvent, Walks, world_at, world_ends_path}
 use Rattle.paths.proofs.Walk.{Leads, Reaches, Rows, only_last, walked}
 
@@ -31,8 +31,8 @@ chosen false false None = (refl, refl)
 
 module _ (deny : Refusals) (lines : ℕ) where
   next_world : (n : ℕ) (w : Row) (ps : Rows) (s : World) → Leads deny lines ((n, w) ∷ ps) s
-      → tick deny lines s ≡ world_after_row w deny lines s
-  unfolding tick
+      → world_after_cycle deny lines s ≡ world_after_row w deny lines s
+  unfolding world_after_cycle
   next_world n w ps s h = ap (λ k. world_after_row k deny lines s) (ap row_at h.0 ∙ h.1)
 
   here : (n : ℕ) (w : Row) (ps : Rows) (s : World) → Leads deny lines ((n, w) ∷ ps) s
@@ -40,24 +40,24 @@ module _ (deny : Refusals) (lines : ℕ) where
   here n w ps s h = ap (λ k. ends_path k.sequencing) (ap row_at h.0 ∙ h.1)
 
   pile_is_decided : (ps : Rows) (s : World) → Leads deny lines ps s → only_last ps ≡ true → (n : ℕ) → n + 1 < length ps
-      → world_ends_path (ticks deny lines n s) ≡ false
-  unfolding ticks
+      → world_ends_path (world_after_cycles deny lines n s) ≡ false
+  unfolding world_after_cycles
   pile_is_decided [] s h p n l = absurd (omega arith)
   pile_is_decided (q ∷ []) s h p n l = absurd (omega arith)
   pile_is_decided (q ∷ (t ∷ ps)) s h p zero l = here q.0 q.1 (t ∷ ps) s h ∙ not-true _ (and_parts _ _ p).0
   pile_is_decided (q ∷ (t ∷ ps)) s h p (suc n) l =
-      ap (λ u. world_ends_path (ticks deny lines n u)) (next_world q.0 q.1 (t ∷ ps) s h)
+      ap (λ u. world_ends_path (world_after_cycles deny lines n u)) (next_world q.0 q.1 (t ∷ ps) s h)
       ∙ pile_is_decided (t ∷ ps) (world_after_row q.1 deny lines s) h.2 (and_parts _ _ p).1 n (omega arith)
 
   comes_to_end : (ps : Rows) (s : World) → Leads deny lines ps s → only_last ps ≡ true → (n : ℕ) → n + 1 ≡ length ps
-      → world_ends_path (ticks deny lines n s) ≡ true
-  unfolding ticks
+      → world_ends_path (world_after_cycles deny lines n s) ≡ true
+  unfolding world_after_cycles
   comes_to_end [] s h p n l = absurd (omega arith)
   comes_to_end (q ∷ []) s h p zero l = here q.0 q.1 [] s h ∙ p
   comes_to_end (q ∷ []) s h p (suc n) l = absurd (omega arith)
   comes_to_end (q ∷ (t ∷ ps)) s h p zero l = absurd (omega arith)
   comes_to_end (q ∷ (t ∷ ps)) s h p (suc n) l =
-      ap (λ u. world_ends_path (ticks deny lines n u)) (next_world q.0 q.1 (t ∷ ps) s h)
+      ap (λ u. world_ends_path (world_after_cycles deny lines n u)) (next_world q.0 q.1 (t ∷ ps) s h)
       ∙ comes_to_end (t ∷ ps) (world_after_row q.1 deny lines s) h.2 (and_parts _ _ p).1 n (omega arith)
 
   -- a path of the book's length to what the book makes is a step
@@ -76,7 +76,7 @@ module _ (deny : Refusals) (lines : ℕ) where
                   (is_interrupting (after_fetch deny (before_fetch deny b b.event)).event_sr lines)
                   (after_fetch deny (before_fetch deny b b.event)).fault;
               is =
-                  ap (λ n. ticks deny lines n (world_at b dt row flag)) (sym h.long)
+                  ap (λ n. world_after_cycles deny lines n (world_at b dt row flag)) (sym h.long)
                   ∙ walked deny lines h.rows (world_at b dt row flag) h.leads
                   ∙ h.arrives;
             };

@@ -17,7 +17,7 @@ use Rattle.rows.specs.declared.row.Row.{Row}
 use Rattle.rows.specs.declared.row.Sequencing.TheVariants as s
 use Rattle.rows.specs.declared.row.Transfer.TheVariants as m
 use Rattle.book.specs.Book.{Book, Refusals, after_fetch, branch_if, effect_of, with_risen_pc, with_link}
-use Rattle.book.specs.Fit.{Fit}
+use Rattle.book.specs.Fit.{IsFit}
 use Rattle.book.specs.Instruction.{Instruction}
 use Rattle.paths.specs.Path.{world_at}
 use Rattle.paths.proofs.Jumps.{branch, lands}
@@ -32,11 +32,11 @@ same_zero v w h k = grind (arith, nat_tests)
 abbrev sign : ℕ → Bool
 sign v = bit 31 ((v + 4294967296) % 2 ^ 32)
 
-abbrev nought : ℕ → Bool
-nought v = eqb ((v + 4294967296) % 2 ^ 32) 0
+abbrev is_zero : ℕ → Bool
+is_zero v = eqb ((v + 4294967296) % 2 ^ 32) 0
 
 -- at most one of the two is set
-sign_alone : (v : ℕ) → sign v ≡ true → nought v ≡ false
+sign_alone : (v : ℕ) → sign v ≡ true → is_zero v ≡ false
 sign_alone v p = grind (arith, nat_tests)
 
 high_sign : (v : ℕ) → v < 2 ^ 32 → ltb v (2 ^ 31) ≡ false → true ≡ sign v
@@ -48,10 +48,10 @@ low_below v h = grind (arith, nat_tests)
 low_not_below : (v : ℕ) → ltb v (2 ^ 31) ≡ true → leb 0 v ≡ not (sign v)
 low_not_below v h = grind (arith, nat_tests)
 
-low_not_above : (v : ℕ) → ltb v (2 ^ 31) ≡ true → leb v 0 ≡ sign v || nought v
+low_not_above : (v : ℕ) → ltb v (2 ^ 31) ≡ true → leb v 0 ≡ sign v || is_zero v
 low_not_above v h = grind (arith, nat_tests)
 
-low_above : (v : ℕ) → ltb v (2 ^ 31) ≡ true → ltb 0 v ≡ not (sign v || nought v)
+low_above : (v : ℕ) → ltb v (2 ^ 31) ≡ true → ltb 0 v ≡ not (sign v || is_zero v)
 low_above v h = grind (arith, nat_tests)
 
 -- each test of a branch, in those two
@@ -61,13 +61,13 @@ below_is v h = split (ltb v (2 ^ 31)) (λ t. rw t (low_below v t)) (λ t. rw t (
 not_below_is : (v : ℕ) → v < 2 ^ 32 → le_z (pos 0) (integer_of v) ≡ not (sign v)
 not_below_is v h = split (ltb v (2 ^ 31)) (λ t. rw t (low_not_below v t)) (λ t. rw t (ap not (high_sign v h t)))
 
-not_above_is : (v : ℕ) → v < 2 ^ 32 → le_z (integer_of v) (pos 0) ≡ sign v || nought v
+not_above_is : (v : ℕ) → v < 2 ^ 32 → le_z (integer_of v) (pos 0) ≡ sign v || is_zero v
 not_above_is v h =
-    split (ltb v (2 ^ 31)) (λ t. rw t (low_not_above v t)) (λ t. rw t (ap (λ p. p || nought v) (high_sign v h t)))
+    split (ltb v (2 ^ 31)) (λ t. rw t (low_not_above v t)) (λ t. rw t (ap (λ p. p || is_zero v) (high_sign v h t)))
 
-above_is : (v : ℕ) → v < 2 ^ 32 → lt_z (pos 0) (integer_of v) ≡ not (sign v || nought v)
+above_is : (v : ℕ) → v < 2 ^ 32 → lt_z (pos 0) (integer_of v) ≡ not (sign v || is_zero v)
 above_is v h =
-    split (ltb v (2 ^ 31)) (λ t. rw t (low_above v t)) (λ t. rw t (ap (λ p. not (p || nought v)) (high_sign v h t)))
+    split (ltb v (2 ^ 31)) (λ t. rw t (low_above v t)) (λ t. rw t (ap (λ p. not (p || is_zero v)) (high_sign v h t)))
 
 or_right : (p q : Bool) → p || q ≡ true → p ≡ false → q ≡ true
 or_right p q h k = sym (ap (λ z. z || q) k) ∙ h
@@ -95,7 +95,7 @@ turn a p q p' q' h k = ap (λ z. a + one_if z * 2 + one_if q) h ∙ ap (λ z. a 
 abbrev aim : Row
 aim = row x.Pc y.I18 Sum r.Ad m.Nop e.If s.Next 31
 
-module _ (deny : Refusals) (lines : ℕ) (b : Book) (dt : ℕ) (fit : Fit b) (law : WordsStayWords) where
+module _ (deny : Refusals) (lines : ℕ) (b : Book) (dt : ℕ) (fit : IsFit b) (law : WordsStayWords) where
   abbrev g : Regs
   g = b.regs
 
@@ -103,14 +103,14 @@ module _ (deny : Refusals) (lines : ℕ) (b : Book) (dt : ℕ) (fit : Fit b) (la
   next = (b.regs.pc + 4) % 2 ^ 32
 
   -- the rows of a branch that is taken, and of one that is not
-  abbrev gone : ℕ → Rows
-  gone n = (n, aim) ∷ (31, branch) ∷ (15, fetch) ∷ []
+  abbrev taken_rows : ℕ → Rows
+  taken_rows n = (n, aim) ∷ (31, branch) ∷ (15, fetch) ∷ []
 
   abbrev left : ℕ → Rows
   left n = (n, fetch) ∷ []
 
   goes : (n : ℕ) (h : Regs) (t : Bool) → t ≡ true
-      → walk deny lines (gone n) (amid b h dt None n) ≡ ending lines (after_fetch deny (branch_if b t h)) dt
+      → walk deny lines (taken_rows n) (amid b h dt None n) ≡ ending lines (after_fetch deny (branch_if b t h)) dt
   goes n h t k =
       lands deny lines b dt h ((h.pc + branch_offset h.ir) % 2 ^ 32) (below (h.pc + branch_offset h.ir))
       ∙ ap (λ z. ending lines (after_fetch deny (branch_if b z h)) dt) (sym k)
@@ -141,10 +141,10 @@ module _ (deny : Refusals) (lines : ℕ) (b : Book) (dt : ℕ) (fit : Fit b) (la
       ∷ rest
 
   compares_gone : (k a n : ℕ) (t : Bool) → t ≡ true
-      → walk deny lines (compares k a (gone n)) (world_at b dt 16 None)
+      → walk deny lines (compares k a (taken_rows n)) (world_at b dt 16 None)
       ≡ ending lines (after_fetch deny (branch_if b t (with_ad other (with_risen_pc b)))) dt
   compares_gone k a n t h =
-      ap (λ v. walk deny lines (gone n) (amid b (with_ad v (with_risen_pc b)) dt None n)) other_word
+      ap (λ v. walk deny lines (taken_rows n) (amid b (with_ad v (with_risen_pc b)) dt None n)) other_word
       ∙ goes n (with_ad other (with_risen_pc b)) t h
 
   compares_left : (k a n : ℕ) (t : Bool) → t ≡ false
@@ -160,7 +160,7 @@ module _ (deny : Refusals) (lines : ℕ) (b : Book) (dt : ℕ) (fit : Fit b) (la
   unfolding rows
   branches_equal_taken o t =
       record {
-        rows = compares 4 32 (gone 33);
+        rows = compares 4 32 (taken_rows 33);
         long = refl;
         plain = refl;
         leads =
@@ -200,7 +200,7 @@ module _ (deny : Refusals) (lines : ℕ) (b : Book) (dt : ℕ) (fit : Fit b) (la
   unfolding rows
   branches_unequal_taken o t =
       record {
-        rows = compares 5 34 (gone 34);
+        rows = compares 5 34 (taken_rows 34);
         long = refl;
         plain = refl;
         leads =
@@ -240,7 +240,7 @@ module _ (deny : Refusals) (lines : ℕ) (b : Book) (dt : ℕ) (fit : Fit b) (la
 
   -- where a row that tests a word goes on
   abbrev turned : ℕ → ℕ → ℕ
-  turned a v = a / 4 * 4 + one_if (sign v) * 2 + one_if (nought v)
+  turned a v = a / 4 * 4 + one_if (sign v) * 2 + one_if (is_zero v)
 
   one_small : one < 2 ^ 32
   one_small = fit.words.general (rs g.ir)
@@ -253,7 +253,7 @@ module _ (deny : Refusals) (lines : ℕ) (b : Book) (dt : ℕ) (fit : Fit b) (la
   unfolding rows
   tests_gone k a n t o h1 at h2 k1 =
       record {
-        rows = tests k a (gone n);
+        rows = tests k a (taken_rows n);
         long = refl;
         plain = refl;
         leads = (refl, refl) ↠ (ap (λ i. 256 + i * 4) o, h1) ↠ (at, h2) ↠ (refl, refl) ↠ (refl, refl) ↠ tt;
@@ -282,31 +282,32 @@ module _ (deny : Refusals) (lines : ℕ) (b : Book) (dt : ℕ) (fit : Fit b) (la
       split (sign one)
       (λ p.
       tests_gone 6 44 46 (le_z (integer_of one) (pos 0)) o refl
-      (turn 44 (sign one) (nought one) true false p (sign_alone one p)) refl t)
+      (turn 44 (sign one) (is_zero one) true false p (sign_alone one p)) refl t)
       (λ p.
       tests_gone 6 44 45 (le_z (integer_of one) (pos 0)) o refl
-      (turn 44 (sign one) (nought one) false true p
-      (or_right (sign one) (nought one) (sym (not_above_is one one_small) ∙ t) p)) refl t)
+      (turn 44 (sign one) (is_zero one) false true p
+      (or_right (sign one) (is_zero one) (sym (not_above_is one one_small) ∙ t) p)) refl t)
 
   pub branches_not_above_not :
       (o : opcode g.ir ≡ 6) (t : le_z (integer_of (reg (with_risen_pc b) (rs g.ir))) (pos 0) ≡ false)
       → Reaches deny lines b dt 16 None 3 (effect_of deny b Instruction.branch_not_above (with_risen_pc b))
   unfolding rows
   branches_not_above_not o t =
-      let q : sign one || nought one ≡ false = sym (not_above_is one one_small) ∙ t in
+      let q : sign one || is_zero one ≡ false = sym (not_above_is one one_small) ∙ t in
       tests_left 6 44 44 (le_z (integer_of one) (pos 0)) o refl
-      (turn 44 (sign one) (nought one) false false (or_left_none (sign one) (nought one) q)
-      (or_right_none (sign one) (nought one) q)) refl t
+      (turn 44 (sign one) (is_zero one) false false (or_left_none (sign one) (is_zero one) q)
+      (or_right_none (sign one) (is_zero one) q)) refl t
 
   pub branches_above_taken : (o : opcode g.ir ≡ 7)
       (t : lt_z (pos 0) (integer_of (reg (with_risen_pc b) (rs g.ir))) ≡ true)
       → Reaches deny lines b dt 16 None 5 (effect_of deny b Instruction.branch_above (with_risen_pc b))
   unfolding rows
   branches_above_taken o t =
-      let q : sign one || nought one ≡ false = not_true (sign one || nought one) (sym (above_is one one_small) ∙ t) in
+      let q : sign one || is_zero one ≡ false =
+      not_true (sign one || is_zero one) (sym (above_is one one_small) ∙ t) in
       tests_gone 7 48 48 (lt_z (pos 0) (integer_of one)) o refl
-      (turn 48 (sign one) (nought one) false false (or_left_none (sign one) (nought one) q)
-      (or_right_none (sign one) (nought one) q)) refl t
+      (turn 48 (sign one) (is_zero one) false false (or_left_none (sign one) (is_zero one) q)
+      (or_right_none (sign one) (is_zero one) q)) refl t
 
   pub branches_above_not : (o : opcode g.ir ≡ 7)
       (t : lt_z (pos 0) (integer_of (reg (with_risen_pc b) (rs g.ir))) ≡ false)
@@ -316,11 +317,11 @@ module _ (deny : Refusals) (lines : ℕ) (b : Book) (dt : ℕ) (fit : Fit b) (la
       split (sign one)
       (λ p.
       tests_left 7 48 50 (lt_z (pos 0) (integer_of one)) o refl
-      (turn 48 (sign one) (nought one) true false p (sign_alone one p)) refl t)
+      (turn 48 (sign one) (is_zero one) true false p (sign_alone one p)) refl t)
       (λ p.
       tests_left 7 48 49 (lt_z (pos 0) (integer_of one)) o refl
-      (turn 48 (sign one) (nought one) false true p
-      (or_right (sign one) (nought one) (not_false (sign one || nought one) (sym (above_is one one_small) ∙ t)) p))
+      (turn 48 (sign one) (is_zero one) false true p
+      (or_right (sign one) (is_zero one) (not_false (sign one || is_zero one) (sym (above_is one one_small) ∙ t)) p))
       refl t)
 
   -- BLTZ and BGEZ
@@ -339,7 +340,7 @@ module _ (deny : Refusals) (lines : ℕ) (b : Book) (dt : ℕ) (fit : Fit b) (la
   unfolding rows
   signs_gone d a n t o c h1 at h2 k1 =
       record {
-        rows = signs d a (gone n);
+        rows = signs d a (taken_rows n);
         long = refl;
         plain = refl;
         leads = (refl, refl) ↠ (ap (λ i. 256 + i * 4) o, refl) ↠ (c, h1) ↠ (at, h2) ↠ (refl, refl) ↠ (refl, refl) ↠ tt;
@@ -368,7 +369,7 @@ module _ (deny : Refusals) (lines : ℕ) (b : Book) (dt : ℕ) (fit : Fit b) (la
   branches_below_taken o w l t =
       let p : sign one ≡ true = sym (below_is one one_small) ∙ t in
       signs_gone 192 36 38 (lt_z (integer_of one) (pos 0)) o (turn 192 (bit 20 g.ir) (bit 16 g.ir) false false l w)
-      refl (turn 36 (sign one) (nought one) true false p (sign_alone one p)) refl t
+      refl (turn 36 (sign one) (is_zero one) true false p (sign_alone one p)) refl t
 
   pub branches_below_not :
       (o : opcode g.ir ≡ 1) (w : bit 16 g.ir ≡ false) (l : bit 20 g.ir ≡ false)
@@ -378,13 +379,13 @@ module _ (deny : Refusals) (lines : ℕ) (b : Book) (dt : ℕ) (fit : Fit b) (la
   branches_below_not o w l t =
       let p : sign one ≡ false = sym (below_is one one_small) ∙ t in
       let c : chosen ≡ 192 = turn 192 (bit 20 g.ir) (bit 16 g.ir) false false l w in
-      split (nought one)
+      split (is_zero one)
       (λ q.
       signs_left 192 36 37 (lt_z (integer_of one) (pos 0)) o c refl
-      (turn 36 (sign one) (nought one) false true p q) refl t)
+      (turn 36 (sign one) (is_zero one) false true p q) refl t)
       (λ q.
       signs_left 192 36 36 (lt_z (integer_of one) (pos 0)) o c refl
-      (turn 36 (sign one) (nought one) false false p q) refl t)
+      (turn 36 (sign one) (is_zero one) false false p q) refl t)
 
   pub branches_not_below_taken :
       (o : opcode g.ir ≡ 1) (w : bit 16 g.ir ≡ true) (l : bit 20 g.ir ≡ false)
@@ -394,13 +395,13 @@ module _ (deny : Refusals) (lines : ℕ) (b : Book) (dt : ℕ) (fit : Fit b) (la
   branches_not_below_taken o w l t =
       let p : sign one ≡ false = not_true (sign one) (sym (not_below_is one one_small) ∙ t) in
       let c : chosen ≡ 193 = turn 192 (bit 20 g.ir) (bit 16 g.ir) false true l w in
-      split (nought one)
+      split (is_zero one)
       (λ q.
       signs_gone 193 40 41 (le_z (pos 0) (integer_of one)) o c refl
-      (turn 40 (sign one) (nought one) false true p q) refl t)
+      (turn 40 (sign one) (is_zero one) false true p q) refl t)
       (λ q.
       signs_gone 193 40 40 (le_z (pos 0) (integer_of one)) o c refl
-      (turn 40 (sign one) (nought one) false false p q) refl t)
+      (turn 40 (sign one) (is_zero one) false false p q) refl t)
 
   pub branches_not_below_not :
       (o : opcode g.ir ≡ 1) (w : bit 16 g.ir ≡ true) (l : bit 20 g.ir ≡ false)
@@ -410,7 +411,7 @@ module _ (deny : Refusals) (lines : ℕ) (b : Book) (dt : ℕ) (fit : Fit b) (la
   branches_not_below_not o w l t =
       let p : sign one ≡ true = not_false (sign one) (sym (not_below_is one one_small) ∙ t) in
       signs_left 193 40 42 (le_z (pos 0) (integer_of one)) o (turn 192 (bit 20 g.ir) (bit 16 g.ir) false true l w) refl
-      (turn 40 (sign one) (nought one) true false p (sign_alone one p)) refl t
+      (turn 40 (sign one) (is_zero one) true false p (sign_alone one p)) refl t
 
   -- BLTZAL and BGEZAL: RS is read after the link is written
   abbrev linking : ℕ → Row
@@ -440,7 +441,7 @@ module _ (deny : Refusals) (lines : ℕ) (b : Book) (dt : ℕ) (fit : Fit b) (la
   unfolding rows
   links_gone c d a n t o h0 h1 h2 at h3 k1 =
       record {
-        rows = links c d a (gone n);
+        rows = links c d a (taken_rows n);
         long = refl;
         plain = refl;
         leads =
@@ -454,7 +455,8 @@ module _ (deny : Refusals) (lines : ℕ) (b : Book) (dt : ℕ) (fit : Fit b) (la
             ↠ tt;
         last = dt;
         arrives =
-            ap (λ v. walk deny lines (gone n) (amid b (link_in v) dt None n)) next_word ∙ goes n (link_in next) t k1;
+            ap (λ v. walk deny lines (taken_rows n) (amid b (link_in v) dt None n)) next_word
+            ∙ goes n (link_in next) t k1;
       }
 
   links_left : (c d a n : ℕ) (t : Bool) → opcode g.ir ≡ 1 → chosen ≡ c → row_at c ≡ linking d → row_at d ≡ tester a
@@ -480,7 +482,7 @@ module _ (deny : Refusals) (lines : ℕ) (b : Book) (dt : ℕ) (fit : Fit b) (la
   branches_below_link_taken o w l t =
       let p : sign then ≡ true = sym (below_is then then_small) ∙ t in
       links_gone 194 192 36 38 (lt_z (integer_of then) (pos 0)) o (turn 192 (bit 20 g.ir) (bit 16 g.ir) true false l w)
-      refl refl (turn 36 (sign then) (nought then) true false p (sign_alone then p)) refl t
+      refl refl (turn 36 (sign then) (is_zero then) true false p (sign_alone then p)) refl t
 
   pub branches_below_link_not :
       (o : opcode g.ir ≡ 1) (w : bit 16 g.ir ≡ false) (l : bit 20 g.ir ≡ true)
@@ -490,13 +492,13 @@ module _ (deny : Refusals) (lines : ℕ) (b : Book) (dt : ℕ) (fit : Fit b) (la
   branches_below_link_not o w l t =
       let p : sign then ≡ false = sym (below_is then then_small) ∙ t in
       let c : chosen ≡ 194 = turn 192 (bit 20 g.ir) (bit 16 g.ir) true false l w in
-      split (nought then)
+      split (is_zero then)
       (λ q.
       links_left 194 192 36 37 (lt_z (integer_of then) (pos 0)) o c refl refl
-      (turn 36 (sign then) (nought then) false true p q) refl t)
+      (turn 36 (sign then) (is_zero then) false true p q) refl t)
       (λ q.
       links_left 194 192 36 36 (lt_z (integer_of then) (pos 0)) o c refl refl
-      (turn 36 (sign then) (nought then) false false p q) refl t)
+      (turn 36 (sign then) (is_zero then) false false p q) refl t)
 
   pub branches_not_below_link_taken :
       (o : opcode g.ir ≡ 1) (w : bit 16 g.ir ≡ true) (l : bit 20 g.ir ≡ true)
@@ -506,13 +508,13 @@ module _ (deny : Refusals) (lines : ℕ) (b : Book) (dt : ℕ) (fit : Fit b) (la
   branches_not_below_link_taken o w l t =
       let p : sign then ≡ false = not_true (sign then) (sym (not_below_is then then_small) ∙ t) in
       let c : chosen ≡ 195 = turn 192 (bit 20 g.ir) (bit 16 g.ir) true true l w in
-      split (nought then)
+      split (is_zero then)
       (λ q.
       links_gone 195 193 40 41 (le_z (pos 0) (integer_of then)) o c refl refl
-      (turn 40 (sign then) (nought then) false true p q) refl t)
+      (turn 40 (sign then) (is_zero then) false true p q) refl t)
       (λ q.
       links_gone 195 193 40 40 (le_z (pos 0) (integer_of then)) o c refl refl
-      (turn 40 (sign then) (nought then) false false p q) refl t)
+      (turn 40 (sign then) (is_zero then) false false p q) refl t)
 
   pub branches_not_below_link_not :
       (o : opcode g.ir ≡ 1) (w : bit 16 g.ir ≡ true) (l : bit 20 g.ir ≡ true)
@@ -522,4 +524,4 @@ module _ (deny : Refusals) (lines : ℕ) (b : Book) (dt : ℕ) (fit : Fit b) (la
   branches_not_below_link_not o w l t =
       let p : sign then ≡ true = not_false (sign then) (sym (not_below_is then then_small) ∙ t) in
       links_left 195 193 40 42 (le_z (pos 0) (integer_of then)) o (turn 192 (bit 20 g.ir) (bit 16 g.ir) true true l w)
-      refl refl (turn 40 (sign then) (nought then) true false p (sign_alone then p)) refl t
+      refl refl (turn 40 (sign then) (is_zero then) true false p (sign_alone then p)) refl t

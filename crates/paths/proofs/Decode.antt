@@ -28,7 +28,7 @@ use Rattle.machine.specs.declared.operation.Operation.TheVariants.{
 }
 use Rattle.rows.specs.Rows.{rows}
 use Rattle.book.specs.Book.{Book, Effect, Refusals, effect_of, with_risen_pc, with_link}
-use Rattle.book.specs.Fit.{Fit}
+use Rattle.book.specs.Fit.{IsFit}
 use Rattle.book.specs.Instruction.{Instruction, branch_instruction, instruction_of, functions, opcodes}
 use Rattle.book.specs.Instruction.{system_instruction}
 use Rattle.book.specs.Instruction.{table_entry}
@@ -51,7 +51,7 @@ use Rattle.paths.proofs.System.{returns, unassigned_function_lem, unassigned_opc
 use Rattle.paths.proofs.Upto.{◌▹◌, among}
 use Rattle.paths.proofs.Walk.{Reaches, below}
 
-module _ (deny : Refusals) (lines : ℕ) (b : Book) (dt : ℕ) (fit : Fit b) (law : WordsStayWords) where
+module _ (deny : Refusals) (lines : ℕ) (b : Book) (dt : ℕ) (fit : IsFit b) (law : WordsStayWords) where
   abbrev ir : ℕ
   ir = b.regs.ir
 

@@ -18,7 +18,7 @@ use Rattle.rows.specs.declared.row.Row.{Row}
 use Rattle.rows.specs.declared.row.Sequencing.TheVariants as s
 use Rattle.rows.specs.declared.row.Transfer.TheVariants as m
 use Rattle.book.specs.Book.{Book, Event, Refusals, after_fetch, before_fetch, entry_of}
-use Rattle.book.specs.Fit.{Fit}
+use Rattle.book.specs.Fit.{IsFit}
 use Rattle.paths.specs.Instant.{World}
 use Rattle.paths.specs.Path.{world_at}
 use Rattle.paths.proofs.Walk.{◌↠◌, Rows, ending, fetching, nothing_plus, plus_nothing, row, split, walk}
@@ -65,7 +65,7 @@ barring : (deny : Refusals) (lines : ℕ) (g : Regs) (ledger : List Entry) (byte
 barring deny lines g ledger bytes old dt n h =
     split (deny.unreadable (word_of g.pc)) (λ q. simp (q, nothing_plus g.ad h)) (λ q. simp (q, nothing_plus g.ad h))
 
-module _ (deny : Refusals) (lines : ℕ) (b : Book) (dt : ℕ) (fit : Fit b) (law : WordsStayWords) where
+module _ (deny : Refusals) (lines : ℕ) (b : Book) (dt : ℕ) (fit : IsFit b) (law : WordsStayWords) where
   abbrev g : Regs
   g = b.regs
 

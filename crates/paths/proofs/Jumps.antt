@@ -17,7 +17,7 @@ use Rattle.rows.specs.declared.row.Sequencing.TheVariants as s
 use Rattle.rows.specs.declared.row.Transfer.TheVariants as m
 use Rattle.microprogram.specs.Cycle.{fault_if}
 use Rattle.book.specs.Book.{Book, Refusals, after_fetch, effect_of, jump_to, with_risen_pc, with_fault, without_fault}
-use Rattle.book.specs.Fit.{Fit}
+use Rattle.book.specs.Fit.{IsFit}
 use Rattle.book.specs.Instruction.{Instruction}
 use Rattle.paths.specs.Instant.{World}
 use Rattle.paths.specs.Path.{world_at}
@@ -47,7 +47,7 @@ pub lands : (deny : Refusals) (lines : ℕ) (b : Book) (dt : ℕ) (g : Regs) (t 
     ≡ ending lines (after_fetch deny (jump_to b t g)) dt
 lands deny lines b dt g t h = arrives_if deny lines b dt g t h (is_misplaced 4 g.sr t)
 
-module _ (deny : Refusals) (lines : ℕ) (b : Book) (dt : ℕ) (fit : Fit b) (law : WordsStayWords) where
+module _ (deny : Refusals) (lines : ℕ) (b : Book) (dt : ℕ) (fit : IsFit b) (law : WordsStayWords) where
   abbrev g : Regs
   g = b.regs
 

@@ -31,7 +31,7 @@ use Rattle.microprogram.specs.Cycle.{fault_if, operand_x, operand_y, row_output,
 use Rattle.book.specs.Book.{Book, Effect, Refusals, address, after_fetch, as_word, effect_of, with_risen_pc}
 use Rattle.book.specs.Book.{raised_byte}
 use Rattle.book.specs.Book.{raised_half, with_fault, without_fault}
-use Rattle.book.specs.Fit.{Fit}
+use Rattle.book.specs.Fit.{IsFit}
 use Rattle.book.specs.Instruction.{Instruction}
 use Rattle.paths.specs.Instant.{World}
 use Rattle.paths.specs.Path.{world_at}
@@ -155,7 +155,7 @@ final_row deny lines b g dt k a c op v h =
     ∙ ap (λ n. ending lines (after_fetch deny (without_fault b (with_register (rt g.ir) n g))) dt) h
 
 -- a word of bytes
-word_small : (b : Book) (fit : Fit b) (w : ℕ) → word_at b.bytes w < 2 ^ 32
+word_small : (b : Book) (fit : IsFit b) (w : ℕ) → word_at b.bytes w < 2 ^ 32
 word_small b fit w =
     let p0 : b.bytes w < 256 = fit.bytes w in
     let p1 : b.bytes (w + 1) < 256 = fit.bytes (w + 1) in
@@ -275,7 +275,7 @@ lane_rows deny lines b g dt j k n c i op down' a v h h' =
     ap (λ q. walk deny lines ((k, final x.Ad i down') ∷ []) (amid b (with_ad q g) dt None k)) h
     ∙ final_row deny lines b (with_ad a g) dt k x.Ad i down' v h'
 
-module _ (deny : Refusals) (lines : ℕ) (b : Book) (dt : ℕ) (fit : Fit b) (law : WordsStayWords) where
+module _ (deny : Refusals) (lines : ℕ) (b : Book) (dt : ℕ) (fit : IsFit b) (law : WordsStayWords) where
   abbrev g : Regs
   g = b.regs
 

@@ -5,7 +5,7 @@ use Rattle.machine.specs.Words.{WordsStayWords}
 use Rattle.machine.specs.declared.fault.Fault.{Fault}
 use Rattle.rows.specs.Rows.{row_at, rows}
 use Rattle.book.specs.Book.{Book, Event, Refusals, before_fetch}
-use Rattle.book.specs.Fit.{Fit}
+use Rattle.book.specs.Fit.{IsFit}
 use Rattle.book.specs.Length.{length_of}
 use Rattle.paths.specs.Path.{AtEvent, StepsArePaths, Walks}
 use Rattle.paths.proofs.Arrive.{walks}
@@ -39,7 +39,7 @@ unfolding rows
 exception_rows n (inl e) = subst (λ k. row_at k ≡ excepts_row) (sym e) refl
 exception_rows n (inr e) = subst (λ k. row_at k ≡ excepts_row) (sym e) refl
 
-module _ (deny : Refusals) (lines : ℕ) (b : Book) (dt : ℕ) (fit : Fit b) (law : WordsStayWords) where
+module _ (deny : Refusals) (lines : ℕ) (b : Book) (dt : ℕ) (fit : IsFit b) (law : WordsStayWords) where
   reaches : (v : Event) (row : ℕ) (flag : Option Fault) → AtEvent v row flag
       → Reaches deny lines b dt row flag (length_of b v) (before_fetch deny b v)
   reaches Event.reset row flag h = resets deny lines b dt fit law row flag (reset_rows row h)

@@ -25,7 +25,7 @@ use Rattle.rows.specs.declared.row.Transfer.{Transfer}
 use Rattle.rows.specs.declared.row.Transfer.TheVariants as m
 use Rattle.microprogram.specs.Cycle.{State, fault_if, row_output, state_after}
 use Rattle.book.specs.Book.{Book, Effect, Refusals, address, after_fetch, effect_of, with_risen_pc, with_fault}
-use Rattle.book.specs.Fit.{Fit}
+use Rattle.book.specs.Fit.{IsFit}
 use Rattle.book.specs.Instruction.{Instruction}
 use Rattle.paths.specs.Instant.{World}
 use Rattle.paths.specs.Path.{world_at}
@@ -179,7 +179,7 @@ written_out deny lines b g dt w k h false =
     ∙ fetch_after deny lines b g dt (stored_byte (first_address w g.ad) (byte_count w) (reg g (rt g.ir)) b.bytes)
     (deny.unwritable (word_of g.ad))
 
-module _ (deny : Refusals) (lines : ℕ) (b : Book) (dt : ℕ) (fit : Fit b) (law : WordsStayWords) where
+module _ (deny : Refusals) (lines : ℕ) (b : Book) (dt : ℕ) (fit : IsFit b) (law : WordsStayWords) where
   abbrev g : Regs
   g = b.regs
 

@@ -5,7 +5,7 @@ use lib.Bits.{bit_and}
 use Rattle.std.proofs.lemmas.Nat.{and_comm, and_mask}
 use Rattle.std.proofs.lemmas.Bool.{cond_both}
 use Rattle.bus.specs.Request.{word_of}
-use Rattle.machine.specs.Operation.{overflow, result_of}
+use Rattle.machine.specs.Operation.{overflows, result_of}
 use Rattle.machine.specs.Registers.{Regs, reg, with_ad}
 use Rattle.machine.specs.Word.{function, immediate, opcode, rs, rt, signed_immediate}
 use Rattle.machine.specs.Words.{WordsStayWords}
@@ -20,7 +20,7 @@ use Rattle.rows.specs.declared.row.Row.{Row}
 use Rattle.rows.specs.declared.row.Sequencing.TheVariants as s
 use Rattle.rows.specs.declared.row.Transfer.TheVariants as m
 use Rattle.book.specs.Book.{Book, Refusals, after_fetch, effect_of, with_risen_pc}
-use Rattle.book.specs.Fit.{Fit}
+use Rattle.book.specs.Fit.{IsFit}
 use Rattle.book.specs.Instruction.{Instruction}
 use Rattle.paths.specs.Instant.{World}
 use Rattle.paths.specs.Path.{world_at}
@@ -38,7 +38,7 @@ plain_immediate ir =
 upper : (ir : ℕ) → (immediate ir * 65536) % 2 ^ 32 ≡ immediate ir * 65536
 upper ir = omega arith
 
-module _ (deny : Refusals) (lines : ℕ) (b : Book) (dt : ℕ) (fit : Fit b) (law : WordsStayWords) where
+module _ (deny : Refusals) (lines : ℕ) (b : Book) (dt : ℕ) (fit : IsFit b) (law : WordsStayWords) where
   abbrev start : World
   start = world_at b dt 16 None
 
@@ -67,7 +67,7 @@ module _ (deny : Refusals) (lines : ℕ) (b : Book) (dt : ℕ) (fit : Fit b) (la
       ≡ amid b (with_ad (reg g (rt g.ir)) (with_risen_pc b)) dt None (512 + f * 4 + 1)
   taken f = rw (rt_word b fit)
 
-  unflagged : (op : Operation) (f : ℕ) → overflow op (reg g (rs g.ir)) (reg g (rt g.ir)) ≡ false
+  unflagged : (op : Operation) (f : ℕ) → overflows op (reg g (rs g.ir)) (reg g (rt g.ir)) ≡ false
       → walk deny lines ((512 + f * 4 + 1, row x.Rs y.Ad op r.Ad m.Nop e.Ovf s.Next (512 + f * 4 + 2)) ∷ [])
       (amid b (with_ad (reg g (rt g.ir)) (with_risen_pc b)) dt None (512 + f * 4 + 1))
       ≡ amid b (with_ad (result_of op (reg g (rs g.ir)) (reg g (rt g.ir))) (with_risen_pc b)) dt None (512 + f * 4 + 2)
@@ -78,7 +78,7 @@ module _ (deny : Refusals) (lines : ℕ) (b : Book) (dt : ℕ) (fit : Fit b) (la
       (amid b (with_ad (reg g (rt g.ir)) (with_risen_pc b)) dt None (512 + f * 4 + 1))
       ≡ ending lines (after_fetch deny (effect_of deny b (Instruction.compute_checked op) (with_risen_pc b))) dt
   checked op f small =
-      split (overflow op (reg g (rs g.ir)) (reg g (rt g.ir)))
+      split (overflows op (reg g (rs g.ir)) (reg g (rt g.ir)))
       (λ v. rw v)
       (λ v.
       ap (walk deny lines ((512 + f * 4 + 2, row x.C0 y.Ad Sum r.Rd m.If e.Ibe s.Rie 16) ∷ [])) (unflagged op f v)
@@ -335,7 +335,7 @@ module _ (deny : Refusals) (lines : ℕ) (b : Book) (dt : ℕ) (fit : Fit b) (la
       ≡ amid b (with_ad (signed_immediate g.ir) (with_risen_pc b)) dt None n
   immediate_taken n w h = rw extended_word
 
-  immediate_unflagged : overflow Sum (reg g (rs g.ir)) (signed_immediate g.ir) ≡ false
+  immediate_unflagged : overflows Sum (reg g (rs g.ir)) (signed_immediate g.ir) ≡ false
       → walk deny lines ((289, row x.Rs y.Ad Sum r.Ad m.Nop e.Ovf s.Next 290) ∷ [])
       (amid b (with_ad (signed_immediate g.ir) (with_risen_pc b)) dt None 289)
       ≡ amid b (with_ad ((reg g (rs g.ir) + signed_immediate g.ir) % 2 ^ 32) (with_risen_pc b)) dt None 290
@@ -347,7 +347,7 @@ module _ (deny : Refusals) (lines : ℕ) (b : Book) (dt : ℕ) (fit : Fit b) (la
       ∷ []) (amid b (with_ad (signed_immediate g.ir) (with_risen_pc b)) dt None 289)
       ≡ ending lines (after_fetch deny (effect_of deny b Instruction.add_immediate (with_risen_pc b))) dt
   immediate_added =
-      split (overflow Sum (reg g (rs g.ir)) (signed_immediate g.ir))
+      split (overflows Sum (reg g (rs g.ir)) (signed_immediate g.ir))
       (λ v. rw v)
       (λ v. ap (walk deny lines ((290, row x.C0 y.Ad Sum r.Rt m.If e.Ibe s.Rie 16) ∷ [])) (immediate_unflagged v)
       ∙ rw v (split unfetched (λ q. rw (q, sum_word)) (λ q. rw (q, sum_word))))

@@ -21,7 +21,7 @@ use Rattle.microprogram.specs.Cycle.{fault_if, flag_after, may_write}
 use Rattle.book.specs.Book.{Book, Effect, Refusals, after_fetch, effect_of, from_system, with_risen_pc, to_sr}
 use Rattle.book.specs.Book.{to_system}
 use Rattle.book.specs.Book.{unless_user_mode, with_fault, without_fault}
-use Rattle.book.specs.Fit.{Fit}
+use Rattle.book.specs.Fit.{IsFit}
 use Rattle.book.specs.Instruction.{Instruction, table_entry}
 use Rattle.paths.specs.Instant.{World}
 use Rattle.paths.specs.Path.{world_at}
@@ -50,7 +50,7 @@ none_of n v w y z other h8 h12 h13 h14 =
     ∙ passed n (13, y) ((14, z) ∷ []) other h13
     ∙ passed n (14, z) [] other h14
 
-module _ (deny : Refusals) (lines : ℕ) (b : Book) (dt : ℕ) (fit : Fit b) (law : WordsStayWords) where
+module _ (deny : Refusals) (lines : ℕ) (b : Book) (dt : ℕ) (fit : IsFit b) (law : WordsStayWords) where
   abbrev g : Regs
   g = b.regs
 

@@ -25,8 +25,8 @@ use Rattle.rows.specs.declared.row.Transfer.{Transfer}
 use Rattle.rows.specs.declared.row.Transfer.TheVariants as m
 use Rattle.microprogram.specs.Cycle.{ends_path}
 use Rattle.book.specs.Book.{Book, Effect, Refusals, after_fetch, without_fault}
-use Rattle.book.specs.Fit.{Fit}
-use Rattle.paths.specs.Instant.{World, tick, ticks, world_after_row}
+use Rattle.book.specs.Fit.{IsFit}
+use Rattle.paths.specs.Instant.{World, world_after_cycle, world_after_cycles, world_after_row}
 use Rattle.paths.specs.Path.{world_at}
 
 -- rows with their addresses
@@ -49,11 +49,11 @@ abbrev pub ◌↠◌ : {A B C : Type 0} → A × B → C → A × B × C
 ◌↠◌ row rest = (row.0, row.1, rest)
 
 pub walked : (r : Refusals) (lines : ℕ) (ps : Rows) (s : World) → Leads r lines ps s
-    → ticks r lines (length ps) s ≡ walk r lines ps s
-unfolding tick ticks
+    → world_after_cycles r lines (length ps) s ≡ walk r lines ps s
+unfolding world_after_cycle world_after_cycles
 walked r lines [] s h = refl
 walked r lines (p ∷ ps) s h =
-    ap (λ w. ticks r lines (length ps) (world_after_row w r lines s)) (ap row_at h.0 ∙ h.1)
+    ap (λ w. world_after_cycles r lines (length ps) (world_after_row w r lines s)) (ap row_at h.0 ∙ h.1)
     ∙ walked r lines ps (world_after_row p.1 r lines s) h.2
 
 -- the world at the boundary that ends a step
@@ -149,8 +149,8 @@ pub fetching : (deny : Refusals) (lines : ℕ) (b : Book) (g : Regs) (dt at : �
 fetching deny lines b g dt at = split (deny.unreadable (word_of g.pc)) (λ q. rw q) (λ q. rw q)
 
 -- RT and RS, passed on through a sum with nothing
-pub rt_word : (b : Book) → Fit b → (reg b.regs (rt b.regs.ir) + 0) % 2 ^ 32 ≡ reg b.regs (rt b.regs.ir)
+pub rt_word : (b : Book) → IsFit b → (reg b.regs (rt b.regs.ir) + 0) % 2 ^ 32 ≡ reg b.regs (rt b.regs.ir)
 rt_word b fit = plus_nothing (reg b.regs (rt b.regs.ir)) (fit.words.general (rt b.regs.ir))
 
-pub rs_word : (b : Book) → Fit b → (reg b.regs (rs b.regs.ir) + 0) % 2 ^ 32 ≡ reg b.regs (rs b.regs.ir)
+pub rs_word : (b : Book) → IsFit b → (reg b.regs (rs b.regs.ir) + 0) % 2 ^ 32 ≡ reg b.regs (rs b.regs.ir)
 rs_word b fit = plus_nothing (reg b.regs (rs b.regs.ir)) (fit.words.general (rs b.regs.ir))

@@ -53,9 +53,9 @@ world_after_row w r lines s =
     }
 
 -- one cycle
-unfoldable pub tick : Refusals → ℕ → World → World
-tick r lines s = world_after_row (row_at s.state.row) r lines s
+unfoldable pub world_after_cycle : Refusals → ℕ → World → World
+world_after_cycle r lines s = world_after_row (row_at s.state.row) r lines s
 
-unfoldable pub ticks : Refusals → ℕ → ℕ → World → World
-ticks r lines zero s = s
-ticks r lines (suc n) s = ticks r lines n (tick r lines s)
+unfoldable pub world_after_cycles : Refusals → ℕ → ℕ → World → World
+world_after_cycles r lines zero s = s
+world_after_cycles r lines (suc n) s = world_after_cycles r lines n (world_after_cycle r lines s)

@@ -4,9 +4,9 @@ use Rattle.machine.specs.declared.fault.Fault.{Fault}
 use Rattle.rows.specs.Rows.{row_at}
 use Rattle.microprogram.specs.Cycle.{ends_path, state_at_power_up}
 use Rattle.book.specs.Book.{Book, Event, Refusals, first_state, step}
-use Rattle.book.specs.Fit.{Fit}
+use Rattle.book.specs.Fit.{IsFit}
 use Rattle.book.specs.Length.{length_of}
-use Rattle.paths.specs.Instant.{World, ticks}
+use Rattle.paths.specs.Instant.{World, world_after_cycles}
 
 -- where the microprogram stands at an event: the row, and the flag that is up
 abbrev pub AtEvent : Event → ℕ → Option Fault → Type 0
@@ -42,10 +42,11 @@ world_ends_path s = ends_path (row_at s.state.row).sequencing
 -- a step of the book, walked by the microprogram: after exactly the book's length it stands at the book's next state,
 -- that last cycle ends a path, and none before it does
 pub record Walks (r : Refusals) (lines : ℕ) (b : Book) (s : World) : Type 0 where
-  pub arrives : Stands (step r lines b) (ticks r lines (length_of b b.event) s)
-  pub going : (n : ℕ) → n + 1 < length_of b b.event → world_ends_path (ticks r lines n s) ≡ false
-  pub ending : (n : ℕ) → n + 1 ≡ length_of b b.event → world_ends_path (ticks r lines n s) ≡ true
+  pub arrives : Stands (step r lines b) (world_after_cycles r lines (length_of b b.event) s)
+  pub going : (n : ℕ) → n + 1 < length_of b b.event → world_ends_path (world_after_cycles r lines n s) ≡ false
+  pub ending : (n : ℕ) → n + 1 ≡ length_of b b.event → world_ends_path (world_after_cycles r lines n s) ≡ true
 
--- each step of the book is a path of rows: for any refused words, lines, state of the book and DT
+-- each step of the book is a path of rows: for any refused words, lines and DT, and any state of the book whose
+-- registers hold words and whose bytes are bytes
 abbrev pub StepsArePaths : Type 0
-StepsArePaths = (r : Refusals) (lines : ℕ) (b : Book) → Fit b → (s : World) → Stands b s → Walks r lines b s
+StepsArePaths = (r : Refusals) (lines : ℕ) (b : Book) → IsFit b → (s : World) → Stands b s → Walks r lines b s

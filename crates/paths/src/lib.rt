@@ -2,4 +2,4 @@
 
 #![tactic(auto)]
 
-pub mod law;
+pub mod path;

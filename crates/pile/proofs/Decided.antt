@@ -17,7 +17,7 @@ use Rattle.layers.specs.declared.delay.Delay.{Delay}
 use Rattle.layers.specs.declared.delay.State.TheVariants.{Idle, Counting}
 use Rattle.memories.specs.Ram.{RamSteps, ram_means}
 use Rattle.pile.specs.Decided.{meaning_after}
-use Rattle.pile.specs.Job.{PileSteps, pile_means}
+use Rattle.pile.specs.Pile.{PileSteps, pile_means}
 
 -- an answer that is no wait leaves a delay idle
 idle : (x : Access) (b r : Bool) (w : ℕ) → b ≡ false

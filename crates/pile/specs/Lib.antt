@@ -1,2 +1,2 @@
 pub mod Decided
-pub mod Job
+pub mod Pile

@@ -2,6 +2,6 @@
 
 #![tactic(auto)]
 
-pub mod job;
+pub mod pile;
 #[cfg(test)]
 mod tests;

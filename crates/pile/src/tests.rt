@@ -1,6 +1,6 @@
 //! The pile at the edges of its two memories.
 
-use super::job::Memories;
+use super::pile::Memories;
 use bus::memory::Bus;
 use bus::request::{Answer, Request, Width};
 

@@ -6,10 +6,10 @@ use Rattle.bus.specs.Meaning.{Keeps, Meaning}
 use Rattle.bus.specs.declared.request.Answer.{Answer}
 use Rattle.bus.specs.declared.request.Request.{Request}
 use Rattle.book.specs.Book.{Book, Refusals, step}
-use Rattle.paths.specs.Instant.{World, tick, ticks}
+use Rattle.paths.specs.Instant.{World, world_after_cycle, world_after_cycles}
 use Rattle.microprogram.specs.Cycle.{State, ends_path, state_at_power_up, state_after}
 use Rattle.book.specs.Length.{length_of}
-use Rattle.book.specs.Fit.{Fit}
+use Rattle.book.specs.Fit.{IsFit}
 use Rattle.paths.specs.Path.{Stands, Walks, world_at, world_ends_path}
 use Rattle.r3000.specs.Counts.{report_after}
 use Rattle.r3000.specs.Cycle.{Cycle, next_request}
@@ -41,16 +41,18 @@ no_choice w l k work a c e =
 
 module _ (r : Refusals) where
   -- one more tick
-  ticks_more : (l n : ℕ) (s : World) → ticks r l (suc n) s ≡ tick r l (ticks r l n s)
-  unfolding ticks
+  ticks_more : (l n : ℕ) (s : World)
+      → world_after_cycles r l (suc n) s ≡ world_after_cycle r l (world_after_cycles r l n s)
+  unfolding world_after_cycles
   ticks_more l zero s = refl
-  ticks_more l (suc n) s = ticks_more l n (tick r l s)
+  ticks_more l (suc n) s = ticks_more l n (world_after_cycle r l s)
 
   -- a tick that is no boundary does not depend on the lines
-  same_tick : (l k : ℕ) (s : World) → world_ends_path s ≡ false → tick r l s ≡ tick r k s
-  unfolding tick
+  same_tick : (l k : ℕ) (s : World) → world_ends_path s ≡ false → world_after_cycle r l s ≡ world_after_cycle r k s
+  unfolding world_after_cycle
   same_tick l k s e =
-      ap (λ t. record { state = t; bytes = (tick r l s).bytes }) (no_choice (row_at s.state.row) l k _ _ s.state e)
+      ap (λ t. record { state = t; bytes = (world_after_cycle r l s).bytes })
+      (no_choice (row_at s.state.row) l k _ _ s.state e)
 
 module _ {S : Type 0} {means : S → Meaning} {steps : S → Request → Answer → S → Type 0} (below : Below)
     (keeps : Keeps means steps) (start : S) where
@@ -62,18 +64,18 @@ module _ {S : Type 0} {means : S → Meaning} {steps : S → Request → Answer 
   -- do not matter
   pub record OnTheWay (h : History) (c : Machine S) : Type 0 where
     pub refuses : refusals (means c.pile) ≡ refusals (means start)
-    pub fit : Fit (book h)
+    pub fit : IsFit (book h)
     pub from : World
     pub stands : Stands (book h) from
     pub ticked : (l : ℕ)
-        → world below.memory keeps c ≡ ticks (refusals (means start)) l c.observation.report.place from
+        → world below.memory keeps c ≡ world_after_cycles (refusals (means start)) l c.observation.report.place from
     pub short : c.observation.report.place < length_of (book h) (book h).event
     pub boundaries : length h.boundary_lines ≡ c.observation.report.boundaries
     pub sum : c.observation.report.cycles
         ≡ c.observation.report.frozen + total_length (means start) h.boundary_lines + c.observation.report.place
 
   pub way_start : OnTheWay no_history (core_at_power_up start)
-  unfolding ticks
+  unfolding world_after_cycles
   way_start =
       record {
         refuses = refl;
@@ -105,9 +107,11 @@ module _ {S : Type 0} {means : S → Meaning} {steps : S → Request → Answer 
   still_refuses h c d f k w = (fixed below.memory keeps c.pile d.pile (next_request c) k.answer k.asks).0 ∙ w.refuses
 
   next_tick : (h : History) (c d : Machine S) → Cycle steps c false d → OnTheWay h c
-      → world below.memory keeps d ≡ tick (refusals (means start)) c.processor.lines (world below.memory keeps c)
+      → world below.memory keeps d
+      ≡ world_after_cycle (refusals (means start)) c.processor.lines (world below.memory keeps c)
   next_tick h c d k w =
-      one_tick below.memory keeps c d k ∙ ap (λ r. tick r c.processor.lines (world below.memory keeps c)) w.refuses
+      one_tick below.memory keeps c d k
+      ∙ ap (λ r. world_after_cycle r c.processor.lines (world below.memory keeps c)) w.refuses
 
   -- a frozen cycle leaves the core where it is
   way_frozen : (h : History) (c d : Machine S) → Cycle steps c true d → OnTheWay h c
@@ -120,7 +124,7 @@ module _ {S : Type 0} {means : S → Meaning} {steps : S → Request → Answer 
         stands = w.stands;
         ticked =
             λ l. no_tick below.memory keeps c d k ∙ w.ticked l
-            ∙ ap (λ n. ticks (refusals (means start)) l n.place w.from) (sym (report_of k));
+            ∙ ap (λ n. world_after_cycles (refusals (means start)) l n.place w.from) (sym (report_of k));
         short = subst (λ n. n.place < length_of (book h) (book h).event) (sym (report_of k)) w.short;
         boundaries = w.boundaries ∙ ap (λ n. n.boundaries) (sym (report_of k));
         sum =
@@ -137,7 +141,8 @@ module _ {S : Type 0} {means : S → Meaning} {steps : S → Request → Answer 
   -- whether this cycle ends it
   ending_here : (h : History) (c : Machine S) (w : OnTheWay h c)
       → ends_path (current_row c.processor.state).sequencing
-      ≡ world_ends_path (ticks (refusals (means start)) c.processor.lines c.observation.report.place w.from)
+      ≡ world_ends_path (world_after_cycles
+      (refusals (means start)) c.processor.lines c.observation.report.place w.from)
   ending_here h c w = ap world_ends_path (w.ticked c.processor.lines)
 
   -- an unfrozen cycle within a step
@@ -162,9 +167,10 @@ module _ {S : Type 0} {means : S → Meaning} {steps : S → Request → Answer 
         ticked = λ l.
             next_tick h c d k w
             ∙ same_tick (refusals (means start)) c.processor.lines l (world below.memory keeps c) e
-            ∙ ap (tick (refusals (means start)) l) (w.ticked l)
+            ∙ ap (world_after_cycle (refusals (means start)) l) (w.ticked l)
             ∙ sym (ticks_more (refusals (means start)) l n w.from)
-            ∙ ap (λ p. ticks (refusals (means start)) l p w.from) (sym (add-one n) ∙ ap (λ m. m.place) (sym count));
+            ∙ ap (λ p. world_after_cycles (refusals (means start)) l p w.from)
+            (sym (add-one n) ∙ ap (λ m. m.place) (sym count));
         short =
             subst (λ m. m.place < length_of (book h) (book h).event) (sym count)
             (further (cases_eq (n + 1) (length_of (book h) (book h).event)));
@@ -185,7 +191,7 @@ module _ {S : Type 0} {means : S → Meaning} {steps : S → Request → Answer 
   way_over : (h : History) (c d : Machine S) → Cycle steps c false d
       → ends_path (current_row c.processor.state).sequencing ≡ true → OnTheWay h c
       → OnTheWay (record { boundary_lines = c.processor.lines ∷ h.boundary_lines; since = 0 }) d
-  unfolding ticks
+  unfolding world_after_cycles
   way_over h c d k e w =
       let n : ℕ = c.observation.report.place in
       let count : d.observation.report
@@ -199,11 +205,11 @@ module _ {S : Type 0} {means : S → Meaning} {steps : S → Request → Answer 
       let whole : n + 1 ≡ length_of (book h) (book h).event =
       last (cases_eq (n + 1) (length_of (book h) (book h).event)) in
       let arrived : world below.memory keeps d
-      ≡ ticks (refusals (means start)) c.processor.lines (length_of (book h) (book h).event) w.from =
+      ≡ world_after_cycles (refusals (means start)) c.processor.lines (length_of (book h) (book h).event) w.from =
       next_tick h c d k w
-      ∙ ap (tick (refusals (means start)) c.processor.lines) (w.ticked c.processor.lines)
+      ∙ ap (world_after_cycle (refusals (means start)) c.processor.lines) (w.ticked c.processor.lines)
       ∙ sym (ticks_more (refusals (means start)) c.processor.lines n w.from)
-      ∙ ap (λ p. ticks (refusals (means start)) c.processor.lines p w.from) (sym (add-one n) ∙ whole)
+      ∙ ap (λ p. world_after_cycles (refusals (means start)) c.processor.lines p w.from) (sym (add-one n) ∙ whole)
       in
       record {
         refuses = still_refuses h c d false k w;
@@ -213,7 +219,7 @@ module _ {S : Type 0} {means : S → Meaning} {steps : S → Request → Answer 
             subst (λ s. Stands (step (refusals (means start)) c.processor.lines (book h)) s) (sym arrived)
             (walking h c w).arrives;
         ticked =
-            λ l. ap (λ p. ticks (refusals (means start)) l p (world below.memory keeps d))
+            λ l. ap (λ p. world_after_cycles (refusals (means start)) l p (world below.memory keeps d))
             (ap (λ m. m.place) (sym count));
         short =
             subst
@@ -260,10 +266,10 @@ module _ {S : Type 0} {means : S → Meaning} {steps : S → Request → Answer 
   -- where the place is 0, the core stands at the book's state
   pub agrees : (h : History) (c : Machine S) → OnTheWay h c → c.observation.report.place ≡ 0
       → Agrees (book h) c.processor.state (means c.pile)
-  unfolding ticks
+  unfolding world_after_cycles
   agrees h c w z =
       let same : world below.memory keeps c ≡ world_at (book h) w.stands.dt w.stands.row w.stands.flag =
-      w.ticked 0 ∙ ap (λ n. ticks (refusals (means start)) 0 n w.from) z ∙ w.stands.is in
+      w.ticked 0 ∙ ap (λ n. world_after_cycles (refusals (means start)) 0 n w.from) z ∙ w.stands.is in
       record {
         regs = ap (λ s. s.state.regs) same;
         sampled = ap (λ s. s.state.sampled) same;

@@ -8,7 +8,7 @@ use Rattle.bus.specs.Request.{access_of}
 use Rattle.bus.specs.declared.request.Answer.{Answer}
 use Rattle.bus.specs.declared.request.Answer.TheVariants.{Wait, BusError, Done}
 use Rattle.bus.specs.declared.request.Request.{Request}
-use Rattle.paths.specs.Instant.{StillKeeps, World, bytes_after, still_memory, tick}
+use Rattle.paths.specs.Instant.{StillKeeps, World, bytes_after, still_memory, world_after_cycle}
 use Rattle.microprogram.specs.Cycle.{row_output, state_after}
 use Rattle.rows.specs.declared.row.Row.{Row}
 use Rattle.r3000.specs.Cycle.{Asks, Cycle, next_request, is_wait}
@@ -96,8 +96,8 @@ module _ {S : Type 0} {means : S → Meaning} {steps : S → Request → Answer 
   world c = record { state = c.processor.state; bytes = (means c.pile).byte }
 
   pub one_tick : (c d : Machine S) → Cycle steps c false d
-      → world d ≡ tick (refusals (means c.pile)) c.processor.lines (world c)
-  unfolding tick
+      → world d ≡ world_after_cycle (refusals (means c.pile)) c.processor.lines (world c)
+  unfolding world_after_cycle
   one_tick c d h =
       let w : Row = current_row c.processor.state in
       ap₂ (λ s b. record { state = s; bytes = b })

@@ -5,7 +5,7 @@ use Rattle.paths.specs.Instant.{StillKeeps}
 use Rattle.book.specs.Length.{length_of}
 use Rattle.paths.specs.Path.{Begins, StepsArePaths}
 use Rattle.book.specs.Fit.{BeginsFit, StepsFit}
-use Rattle.microprogram.specs.Bounds.{RowsEnd, RowsListed, path_budget}
+use Rattle.microprogram.specs.Bounds.{RowsEnd, RowsAreListed, path_budget}
 
 pub record Below : Type 0 where
   pub memory : StillKeeps
@@ -15,4 +15,4 @@ pub record Below : Type 0 where
   pub words : StepsFit
   pub some : (b : Book) (v : Event) → 0 < length_of b v
   pub rows : RowsEnd path_budget
-  pub listed : RowsListed
+  pub listed : RowsAreListed

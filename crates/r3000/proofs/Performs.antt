@@ -46,12 +46,12 @@ module _ {S : Type 0} (means : S → Meaning)
 
 module _ {S : Type 0} (means : S → Meaning) (steps : S → Request → Answer → S → Type 0) where
   -- one call more
-  pub plays_more : (start : S) (c b d : Machine S) (xs ys : List Exchange) (x : Exchange) (r : Result Reply Denial)
+  pub calls_more : (start : S) (c b d : Machine S) (xs ys : List Exchange) (x : Exchange) (r : Result Reply Denial)
       → MakesCalls means steps (IsPromised means steps start) c xs ys b → IsReached steps start b
       → MakesCall means steps (Upholds means steps b) b x.call r d → Upholds means steps b d
       → MakesCalls means steps (IsPromised means steps start) c (xs ++ x ∷ [])
       (ys ++ record { call = x.call; reply = Some r } ∷ []) d
-  plays_more start c b d xs ys x r h reached k up = after xs ys c h
+  calls_more start c b d xs ys x r h reached k up = after xs ys c h
     where
       last : MakesCall means steps (IsPromised means steps start) b x.call r d
       last = calls means steps (λ m u. u start reached) b d x.call r k

@@ -6,7 +6,7 @@ use Rattle.r3000.specs.Machine.{History, Machine}
 use Rattle.r3000.specs.declared.cpu.Core.{Core}
 use Rattle.r3000.specs.declared.processor.Processor.{Processor}
 
--- a core's registers, flag, row and ledger, as the rules see them
+-- a core's state, as the rules see it: registers, DT, flag, row, the lines of the last boundary, ledger
 abbrev pub core_state : {B : Type 0} → Core B → State
 core_state c = chip_state c.processor.chip
 

@@ -46,13 +46,13 @@ impl Processor {
             × Cycle B.Bus.steps (machine_of_parts h self.old pile.old) result (machine_of_parts k self.new pile.new) }
     {
         let row = row(self.chip.row);
-        let work = self.chip.work(row);
-        let (res, ..) = work;
+        let output = self.chip.row_output(row);
+        let (res, ..) = output;
         let request = self.chip.request(row.transfer, res);
         let answer = ask(pile, request);
         let frozen = is_wait(answer);
         if !frozen {
-            self.chip.advance(row, self.lines, work, answer);
+            self.chip.advance(row, self.lines, output, answer);
         }
         self.counts.count(frozen, ends_path(row.sequencing));
         frozen

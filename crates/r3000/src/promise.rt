@@ -2,12 +2,13 @@
 
 ghost use Rattle.r3000.specs.Promise.{AllKeepPromise};
 
-use book::law::longest_step;
+use book::length::longest_step;
 use bus::memory::Bus;
 use microprogram::bounds::longest_path;
-use paths::law::steps_are_paths;
+use paths::path::steps_are_paths;
 
-/// A theorem: everything that is reached on any pile keeps the promise. Who calls it has its contract.
+/// A theorem: everything that is reached on any pile keeps the promise. A caller gets it from the
+/// contract.
 pub fn promise<B: Bus>()
     ensures { (start : B) → AllKeepPromise B.Bus.means B.Bus.steps start }
 {

@@ -1,4 +1,4 @@
--- The function computes: the example, and denied lines. Assumes nothing.
+-- The function computes: the example. Assumes nothing.
 use Rattle.std.proofs.Common.{refl}
 use Rattle.replies.specs.Replies.{ExampleHolds}
 use Rattle.rows.specs.Rows.{rows}

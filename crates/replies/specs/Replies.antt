@@ -1,13 +1,13 @@
 -- What a job is answered on a pile of zeroes. Assumes nothing.
 use Rattle.std.specs.Prelude.{◌≡◌, ℕ, ◌+◌, List, [], ◌∷◌, ◌++◌, codes, replicate}
 use Rattle.bus.specs.Meaning.{Meaning}
-use Rattle.jobs.specs.Coming as job
+use Rattle.jobs.specs.NextReply as job
 use Rattle.jobs.specs.Decided.{replies_to_job}
 use Rattle.jobs.specs.Limits.{max_job}
 use Rattle.text.specs.Writing.{reply_text}
 use Rattle.text.specs.declared.reply.Reply.{Reply}
 use Rattle.pile.specs.Decided.{meaning_after}
-use Rattle.pile.specs.Job.{high_length, job_pile, low_length, pile_means}
+use Rattle.pile.specs.Pile.{high_length, job_pile, low_length, pile_means}
 use Rattle.replies.specs.declared.Replies.{Replies}
 
 -- the jobs' pile, where both memories begin with zeroes

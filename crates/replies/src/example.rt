@@ -11,7 +11,7 @@ pub struct Example {
 }
 
 /// A job of four lines that loads an instruction, runs it, and shows its register; and what it is answered.
-pub fn first_job() -> Example
+pub fn worked_example() -> Example
     ensures job { result.job.now ≡ example_job }
     ensures replies { answer_text result.job.now ≡ result.replies.now }
     ensures holds { ExampleHolds }

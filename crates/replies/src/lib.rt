@@ -10,7 +10,7 @@ pub mod example;
 
 use jobs::job::Job;
 use jobs::limits::MAX_JOB;
-use pile::job::{Memories, Pile, pile_is_decided};
+use pile::pile::{Memories, Pile, pile_is_decided};
 use text::reply::Reply;
 
 /// A job at work on the pile of jobs: an iterator over the replies that are still to come. Nothing is allocated.

@@ -14,7 +14,7 @@ use machine::operation::Operation as A;
 type Fields = (X, Y, A, R, M, E, S, u16);
 
 /// What an address holds that the listing leaves out: an illegal code, followed by row 15.
-const EMPTY: Fields = (X::C0, Y::C0, A::Sum, R::Nop, M::Nop, E::Ri, S::Next, 15);
+const EMPTY_FIELDS: Fields = (X::C0, Y::C0, A::Sum, R::Nop, M::Nop, E::Ri, S::Next, 15);
 
 /// How many rows there are.
 const ROW_COUNT: usize = 1_024;
@@ -1209,7 +1209,9 @@ static ROWS: [Fields; ROW_COUNT] = [
 fn fields(address: u16) -> Fields
     ensures { result ≡ slice_index_or rows address empty_fields }
 {
-    ROWS.get(usize::from(address)).copied().unwrap_or(EMPTY)
+    ROWS.get(usize::from(address))
+        .copied()
+        .unwrap_or(EMPTY_FIELDS)
 }
 
 /// The row at an address.

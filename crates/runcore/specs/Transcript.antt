@@ -14,10 +14,10 @@ use Rattle.runcore.specs.declared.transcript.Load.{Load}
 use Rattle.runcore.specs.declared.transcript.AnsweredCall.{AnsweredCall}
 
 -- pieces of text, one after another
-abbrev pub concat : List (List ℕ) → List ℕ
-concat [] = []
-concat (t ∷ []) = t
-concat (t ∷ (u ∷ us)) = t ++ concat (u ∷ us)
+abbrev pub text_of_pieces : List (List ℕ) → List ℕ
+text_of_pieces [] = []
+text_of_pieces (t ∷ []) = t
+text_of_pieces (t ∷ (u ∷ us)) = t ++ text_of_pieces (u ∷ us)
 
 -- a number in hexadecimal, with zeros before it up to so many digits
 abbrev pub hexadecimal : ℕ → ℕ → List ℕ
@@ -33,49 +33,49 @@ word_text n = hexadecimal 8 n
 
 -- how a load ended, after so many waits
 abbrev pub load_end_text : ℕ → Result ℕ BusFault → List ℕ
-load_end_text waits (Ok read) = concat (codes ": waits " ∷ decimal waits ∷ [])
+load_end_text waits (Ok read) = text_of_pieces (codes ": waits " ∷ decimal waits ∷ [])
 load_end_text waits (Err fault) = codes ": refused"
 
 -- a word that was put into the pile: its address, the word, and how that ended
 abbrev pub load_text : Load → List ℕ
 load_text l =
-    concat
+    text_of_pieces
     (codes "load " ∷ word_text l.address ∷ codes " " ∷ word_text l.word
     ∷ load_end_text l.settled.waits l.settled.outcome ∷ [])
 
 -- a call: lines and addresses in hexadecimal, numbers in decimal
 abbrev pub call_text : Call → List ℕ
 call_text call.Clock = codes "clock"
-call_text (call.Run count) = concat (codes "run " ∷ decimal count ∷ [])
-call_text (call.Lines lines) = concat (codes "lines " ∷ byte_text lines ∷ [])
-call_text (call.Register number) = concat (codes "register " ∷ decimal number ∷ [])
+call_text (call.Run count) = text_of_pieces (codes "run " ∷ decimal count ∷ [])
+call_text (call.Lines lines) = text_of_pieces (codes "lines " ∷ byte_text lines ∷ [])
+call_text (call.Register number) = text_of_pieces (codes "register " ∷ decimal number ∷ [])
 call_text call.Snapshot = codes "snapshot"
-call_text (call.Ledger code) = concat (codes "ledger " ∷ decimal code ∷ [])
-call_text (call.Look address) = concat (codes "look " ∷ word_text address ∷ [])
+call_text (call.Ledger code) = text_of_pieces (codes "ledger " ∷ decimal code ∷ [])
+call_text (call.Look address) = text_of_pieces (codes "look " ∷ word_text address ∷ [])
 
 -- a report
 abbrev pub report_text : Report → List ℕ
 report_text r =
-    concat
+    text_of_pieces
     (codes "cycles " ∷ decimal r.cycles ∷ codes ", frozen " ∷ decimal r.frozen ∷ codes ", boundaries "
     ∷ decimal r.boundaries ∷ codes ", place " ∷ decimal r.place ∷ [])
 
 -- a reply, or the number of a denial
 abbrev pub call_reply_text : Result Reply Denial → List ℕ
 call_reply_text (Ok (reply.Clock c)) =
-    concat (cond c.frozen (codes "frozen; ") (codes "not frozen; ") ∷ report_text c.report ∷ [])
+    text_of_pieces (cond c.frozen (codes "frozen; ") (codes "not frozen; ") ∷ report_text c.report ∷ [])
 call_reply_text (Ok (reply.Run report)) = report_text report
 call_reply_text (Ok reply.Lines) = codes "set"
 call_reply_text (Ok (reply.Register w)) = word_text w
 call_reply_text (Ok (reply.Snapshot registers)) = codes "taken"
 call_reply_text (Ok (reply.Ledger entry)) =
-    concat (codes "count " ∷ decimal entry.count ∷ codes ", last EPC " ∷ word_text entry.epc ∷ [])
+    text_of_pieces (codes "count " ∷ decimal entry.count ∷ codes ", last EPC " ∷ word_text entry.epc ∷ [])
 call_reply_text (Ok (reply.Look b)) = byte_text b
-call_reply_text (Err denial) = concat (codes "denied " ∷ decimal (denial_number denial) ∷ [])
+call_reply_text (Err denial) = text_of_pieces (codes "denied " ∷ decimal (denial_number denial) ∷ [])
 
 -- a call and its reply
 abbrev pub answered_call_text : AnsweredCall → List ℕ
-answered_call_text m = concat (call_text m.call ∷ codes ": " ∷ call_reply_text m.reply ∷ [])
+answered_call_text m = text_of_pieces (call_text m.call ∷ codes ": " ∷ call_reply_text m.reply ∷ [])
 
 -- what a table has under a number, or else another text
 abbrev pub table_text : ℕ → List (ℕ × List ℕ) → List ℕ → List ℕ
@@ -99,8 +99,8 @@ special_register_names =
 
 -- a register's name: a general one is called by its number
 abbrev pub register_name : ℕ → List ℕ
-register_name n = table_text n special_register_names (concat (codes "$" ∷ decimal n ∷ []))
+register_name n = table_text n special_register_names (text_of_pieces (codes "$" ∷ decimal n ∷ []))
 
 -- a register that a call changed, and its new word
 abbrev pub change_text : Change → List ℕ
-change_text c = concat (codes "    " ∷ register_name c.register ∷ codes " = " ∷ word_text c.word ∷ [])
+change_text c = text_of_pieces (codes "    " ∷ register_name c.register ∷ codes " = " ∷ word_text c.word ∷ [])

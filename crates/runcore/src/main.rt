@@ -14,7 +14,7 @@ use bus::memory::Bus;
 use bus::request::{Request, Width};
 use bus::settle::settle;
 use firmware::Section;
-use pile::job::Memories;
+use pile::pile::Memories;
 use r3000::perform::perform;
 use transcript::Load;
 

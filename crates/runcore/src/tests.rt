@@ -4,7 +4,7 @@ use super::firmware::{HANDLER, RESET, Section};
 use bus::memory::Bus;
 use bus::request::{Request, Width};
 use bus::settle::settle;
-use pile::job::Memories;
+use pile::pile::Memories;
 use r3000::cpu::Core;
 use r3000::denial::Denial;
 use std::process::Abort;

@@ -5,7 +5,7 @@ use Rattle.anyhow.specs.declared.error.Error.{Error}
 use Rattle.runjob.specs.declared.failure.Failure.{Failure}
 use Rattle.runjob.specs.declared.failure.Failure.TheVariants.{Memory, Read, Write}
 
--- what is wanting, or what could not be done
+-- the text of a failure
 abbrev pub text_of : Failure → List ℕ
 text_of Memory = codes "out of memory"
 text_of (Read e) = codes "cannot read the job"

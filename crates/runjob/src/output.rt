@@ -9,7 +9,7 @@ use super::RETRIES;
 use replies::Replies;
 use std::io;
 use std::io::{ErrorKind, Write};
-use text::writing::text;
+use text::writing::reply_text;
 
 /// One write, tried again where it was interrupted.
 fn write_some<W: Write>(writer: &mut W, bytes: &[u8]) -> io::Result<usize>
@@ -46,7 +46,7 @@ pub fn write_replies<W: Write>(writer: &mut W, replies: &mut Replies<'_>) -> io:
         (text_of_replies (replies_to_come replies.old)) result }
 {
     while let Some(reply) = replies.next() {
-        write_whole(writer, text(reply).as_slice())?;
+        write_whole(writer, reply_text(reply).as_slice())?;
     }
     writer.flush()
 }

@@ -5,7 +5,7 @@ ghost use Rattle.runjob.specs.Run.{RunDoes};
 use super::failure::Failure;
 use super::input::read_job;
 use super::output::write_replies;
-use pile::job::Memories;
+use pile::pile::Memories;
 use replies::Replies;
 use std::alloc::Global;
 use std::io::{Read, Write};

@@ -2,7 +2,7 @@
 
 use super::failure::Failure;
 use super::run::run;
-use replies::example::first_job;
+use replies::example::worked_example;
 use std::alloc::Global;
 use std::io;
 use std::io::{ErrorKind, Read, Write};
@@ -105,7 +105,7 @@ impl Write for Stuck {
 fn example(interrupts: u32) -> Pieces<'static> {
     Pieces {
         interrupts,
-        rest: first_job().job,
+        rest: worked_example().job,
     }
 }
 
@@ -113,7 +113,7 @@ fn example(interrupts: u32) -> Pieces<'static> {
 fn an_interrupted_reader_and_a_narrow_writer(rt: HostRuntime) {
     let mut writer = Narrow::new(rt.alloc(), 1_000);
     assert!(rt; run(rt.alloc(), &mut example(2), &mut writer).is_ok());
-    assert!(rt; writer.held.as_slice() == first_job().replies);
+    assert!(rt; writer.held.as_slice() == worked_example().replies);
 }
 
 #[test]

@@ -10,7 +10,7 @@ use Rattle.std.proofs.lemmas.List.Splits.{slice_split_at, slice_split_none}
 use Rattle.std.specs.List.{All}
 use Rattle.text.proofs.Separated.{digits-length}
 use Rattle.text.specs.Digit.{byte_of}
-use Rattle.text.specs.Reading.{digit_value, fields_of, value_of}
+use Rattle.text.specs.Reading.{digit_or_zero, fields_of, value_of}
 use Rattle.text.specs.Reread.{RoundTrip, reply_of_fields}
 use Rattle.text.specs.Writing.{Field, digits, separated_fields}
 use Rattle.text.specs.declared.reply.Reply.TheVariants.{Loaded, Started, Set, Ran, Shown, Denied}
@@ -19,7 +19,7 @@ use Rattle.text.specs.declared.reply.Reply.TheVariants.{Loaded, Started, Set, Ra
 no_space : (d : ℕ) → eqb (byte_of d) 32 ≡ false
 no_space d = grind (arith, nat_tests)
 
-digit_back : (d : ℕ) → d < 16 → digit_value (byte_of d) ≡ d
+digit_back : (d : ℕ) → d < 16 → digit_or_zero (byte_of d) ≡ d
 digit_back d h = grind (arith, nat_tests)
 
 value_back : (n v : ℕ) → value_of (digits n v) ≡ v % 16 ^ n

@@ -26,13 +26,13 @@ abbrev pub is_in_form : List ℕ → Bool
 is_in_form f = nat_lt 0 (length f) && list_all is_digit f
 
 -- the value of a digit
-abbrev pub digit_value : ℕ → ℕ
-digit_value b = unwrap_or (digit_of b) 0
+abbrev pub digit_or_zero : ℕ → ℕ
+digit_or_zero b = unwrap_or (digit_of b) 0
 
 -- the value of a field: its digits, the first one highest
 abbrev pub value_of : List ℕ → ℕ
 value_of [] = 0
-value_of (b ∷ bs) = digit_value b * 16 ^ length bs + value_of bs
+value_of (b ∷ bs) = digit_or_zero b * 16 ^ length bs + value_of bs
 
 -- the kinds, by their codes
 abbrev pub kind_at : ℕ → Option Kind

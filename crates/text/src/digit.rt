@@ -4,7 +4,7 @@ ghost use Rattle.std.specs.Prelude.{◌≡◌, ◌%◌};
 ghost use Rattle.text.specs.Digit.{byte_of, digit_of};
 
 /// The value of a digit; none for any other byte, lower-case letters among them.
-pub fn value(byte: u8) -> Option<u8>
+pub fn digit_of(byte: u8) -> Option<u8>
     ensures { result ≡ digit_of byte }
 {
     match byte {
@@ -14,8 +14,8 @@ pub fn value(byte: u8) -> Option<u8>
     }
 }
 
-/// The digit of a value, of which the four low bits count: what `value` reads.
-pub fn byte(value: u64) -> u8
+/// The digit of a value, of which the four low bits count: what `digit_of` reads.
+pub fn byte_of(value: u64) -> u8
     ensures { result ≡ byte_of (value % 16) }
 {
     let value = (value & 0xF) as u8;

@@ -22,4 +22,4 @@ pub(crate) const COUNT_WIDTH: usize = 16;
 pub(crate) const SPACE: u8 = b' ';
 
 /// The byte that ends a line, and a reply.
-pub(crate) const LINE_END: u8 = b'\n';
+pub const LINE_END: u8 = b'\n';

@@ -4,7 +4,7 @@
 
 pub mod digit;
 pub mod fault;
-mod form;
+pub mod form;
 pub mod order;
 pub mod reading;
 pub mod reply;

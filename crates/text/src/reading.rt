@@ -15,7 +15,7 @@ use super::order::{Kind, Order};
 fn is_in_form(field: &[u8]) -> bool
     ensures { result ≡ is_in_form field.now }
 {
-    !field.is_empty() && field.iter().all(|byte| digit::value(*byte).is_some())
+    !field.is_empty() && field.iter().all(|byte| digit::digit_of(*byte).is_some())
 }
 
 /// The value of a field of `WIDTH` digits; none where it has more or fewer.
@@ -27,14 +27,14 @@ fn number<const WIDTH: usize>(field: &[u8]) -> Option<u32>
     if field.len() != WIDTH {
         return None;
     }
-    let digits = field.iter().map(|byte| digit::value(*byte).unwrap_or(0));
+    let digits = field.iter().map(|byte| digit::digit_of(*byte).unwrap_or(0));
     Some(digits.fold(0u32, |value, digit| {
         value.wrapping_mul(16).wrapping_add(u32::from(digit))
     }))
 }
 
 /// The kind that a first field names.
-fn kind(field: &[u8]) -> Result<Kind, LineFault>
+fn field_kind(field: &[u8]) -> Result<Kind, LineFault>
     ensures { result ≡ ok_or (field_kind field.now) Unknown }
 {
     let code = number::<CODE_WIDTH>(field).ok_or(LineFault::Unknown)?;
@@ -71,19 +71,19 @@ fn first_fields(line: &[u8]) -> (&[u8], [Option<&[u8]>; 3])
 }
 
 /// Whether each field of a line is in form.
-fn is_formed(line: &[u8]) -> bool
+fn is_line_in_form(line: &[u8]) -> bool
     ensures { result ≡ list_all is_in_form (fields_of line.now) }
 {
     line.split(|byte| *byte == SPACE).all(is_in_form)
 }
 
 /// What a line means, or its first denial.
-pub fn read(line: &[u8]) -> Result<Order, LineFault>
+pub fn read_line(line: &[u8]) -> Result<Order, LineFault>
     ensures { result ≡ read_line line.now }
 {
-    if !is_formed(line) {
+    if !is_line_in_form(line) {
         return Err(LineFault::Form);
     }
     let (first, others) = first_fields(line);
-    order(kind(first)?, others).ok_or(LineFault::Form)
+    order(field_kind(first)?, others).ok_or(LineFault::Form)
 }

@@ -31,7 +31,7 @@ fn push_field(text: &mut Text, field: Field)
 {
     let (width, value) = field;
     for place in (0..width).rev() {
-        text.push(digit::byte(value >> (4 * place)));
+        text.push(digit::byte_of(value >> (4 * place)));
     }
 }
 
@@ -52,7 +52,7 @@ fn line_of(code: u64, others: &[Field]) -> Text
 }
 
 /// The fields that tell counts.
-fn of_counts(counts: Counts) -> [Field; 3]
+fn fields_of_counts(counts: Counts) -> [Field; 3]
     ensures { result ≡ fields_of_counts counts }
 {
     [
@@ -63,7 +63,7 @@ fn of_counts(counts: Counts) -> [Field; 3]
 }
 
 /// The fields that tell a denial.
-fn of_denial(denied: Denied) -> [Field; 3]
+fn fields_of_denial(denied: Denied) -> [Field; 3]
     ensures { result ≡ fields_of_denial denied }
 {
     [
@@ -75,7 +75,7 @@ fn of_denial(denied: Denied) -> [Field; 3]
 
 /// The bytes of a reply, the one that ends it among them; reading them gives the reply back.
 #[tactic(auto, using(crate::proofs::Back::round_trip))]
-pub fn text(reply: Reply) -> Text
+pub fn reply_text(reply: Reply) -> Text
     ensures bytes { result.items ≡ reply_text reply }
     ensures fits { length result.items ≤ longest_reply }
     ensures limit { LONGEST_REPLY ≡ longest_reply }
@@ -85,12 +85,12 @@ pub fn text(reply: Reply) -> Text
         Reply::Loaded => line_of(Kind::Load as u64, &[]),
         Reply::Started => line_of(Kind::Start as u64, &[]),
         Reply::Set => line_of(Kind::SetLines as u64, &[]),
-        Reply::Ran(counts) => line_of(Kind::Run as u64, &of_counts(counts)),
+        Reply::Ran(counts) => line_of(Kind::Run as u64, &fields_of_counts(counts)),
         Reply::Shown(register, word) => {
             let register = (BYTE_WIDTH, u64::from(register));
             let word = (WORD_WIDTH, u64::from(word));
             line_of(Kind::Show as u64, &[register, word])
         }
-        Reply::Denied(denied) => line_of(DENIAL_CODE, &of_denial(denied)),
+        Reply::Denied(denied) => line_of(DENIAL_CODE, &fields_of_denial(denied)),
     }
 }

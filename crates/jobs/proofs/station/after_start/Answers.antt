@@ -14,24 +14,24 @@ use Rattle.jobs.proofs.station.after_start.Given as given
 use Rattle.jobs.proofs.station.after_start.Goals as goal
 
 module _ (g : given.Over) (b d : Machine g.row.B.Denot) where
-  abbrev Obeyed : Order → Result Reply JobFault → Type 0
-  Obeyed o r = LateAnswers g.B.Bus.means g.B.Bus.steps b ((decision o).after b.processor b.observation.report) r d
+  abbrev AnswersLate : Order → Result Reply JobFault → Type 0
+  AnswersLate o r = LateAnswers g.B.Bus.means g.B.Bus.steps b ((decision o).after b.processor b.observation.report) r d
 
   -- what was shown of the order in hand is shown of the one that was passed
-  obeyed : (x y : Order) (r : Result Reply JobFault) → x ≡ y → Obeyed y r → Obeyed x r
-  obeyed x y r e h = subst (λ z. Obeyed z r) (sym e) h
+  same_order : (x y : Order) (r : Result Reply JobFault) → x ≡ y → AnswersLate y r → AnswersLate x r
+  same_order x y r e h = subst (λ z. AnswersLate z r) (sym e) h
 
   -- and what was shown of a reply is shown of one that is equal to it
-  answered : (x y : Order) (q r : Result Reply JobFault) → x ≡ y → r ≡ q → Obeyed y q → Obeyed x r
-  answered x y q r e same h = obeyed x y r e (subst (Obeyed y) (sym same) h)
+  answered : (x y : Order) (q r : Result Reply JobFault) → x ≡ y → r ≡ q → AnswersLate y q → AnswersLate x r
+  answered x y q r e same h = same_order x y r e (subst (AnswersLate y) (sym same) h)
 
 pub returns-in-Load : goal.returns-in-Load
 returns-in-Load g c h =
     let here = machine_of h c.args.core.now in (
       h,
       elim c.in-Load.is [
-        | inl e ↦ obeyed g here here _ _ _ e.2 (refl, refl)
-        | inr e ↦ obeyed g here here _ _ _ e (refl, refl)
+        | inl e ↦ same_order g here here _ _ _ e.2 (refl, refl)
+        | inr e ↦ same_order g here here _ _ _ e (refl, refl)
       ],
       λ start r. record { reached = r; promise = c.promise.ensures start here r },
     )

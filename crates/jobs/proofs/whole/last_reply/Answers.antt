@@ -1,5 +1,5 @@
 use Rattle.std.proofs.Common.{◌≡◌, [], ◌∷◌, ◌++◌, sym, refl, ap, ◌∙◌, subst, append_assoc, append-nil}
-use Rattle.jobs.specs.Coming.{standing_of}
+use Rattle.jobs.specs.NextReply.{standing_of}
 use Rattle.jobs.specs.Job.{AnswersJob, AreToCome, first_standing}
 use Rattle.jobs.specs.Limits.{max_job}
 use Rattle.jobs.specs.Station.{StageIsReached}

@@ -1,5 +1,5 @@
 use Rattle.std.proofs.Common.{◌≡◌, ◌++◌, List}
-use Rattle.jobs.specs.Coming.{standing_of}
+use Rattle.jobs.specs.NextReply.{standing_of}
 use Rattle.jobs.specs.Job.{AnswersJob, AreToCome, last_reply_of}
 use Rattle.jobs.specs.Limits.{max_job}
 use Rattle.jobs.specs.Station.{StageIsReached}

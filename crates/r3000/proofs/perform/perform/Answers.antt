@@ -7,7 +7,7 @@ use Rattle.r3000.specs.Perform.{MakesCalls}
 use Rattle.r3000.specs.Promise.{IsPromised}
 use Rattle.r3000.specs.declared.call.Call.TheVariants as call
 use Rattle.r3000.specs.declared.call.Exchange.{Exchange}
-use Rattle.r3000.proofs.Performs.{plays_more, same_rest}
+use Rattle.r3000.proofs.Performs.{calls_more, same_rest}
 use Rattle.r3000.proofs.perform.perform.Goals as goal
 
 pub loop-exchange-init : goal.loop-exchange-init
@@ -32,7 +32,7 @@ loop-exchange-preserved g c =
     let rest = same_rest ys xs i none inside_still inside before.rest in
     let made : Exchange = record { call = (get_or ys i none).call; reply = Some c.call.result } in
     let more =
-    plays_more g.B.Bus.means g.B.Bus.steps c.args.pile (core_at_power_up c.args.pile)
+    calls_more g.B.Bus.means g.B.Bus.steps c.args.pile (core_at_power_up c.args.pile)
     (machine_of before.history c.loop-exchange.core) (machine_of done.0 c.call.new.self) (take i xs) (take i ys)
     (get_or ys i none) c.call.result before.calls before.reached done.1 done.2 in
     record {

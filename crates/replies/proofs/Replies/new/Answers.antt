@@ -2,7 +2,7 @@ use Rattle.std.proofs.Common.{ap, ap₂, ◌∙◌}
 use Rattle.jobs.specs.Decided.{replies_to_job}
 use Rattle.jobs.specs.Limits.{max_job}
 use Rattle.pile.specs.Decided.{meaning_after}
-use Rattle.pile.specs.Job.{job_pile}
+use Rattle.pile.specs.Pile.{job_pile}
 use Rattle.replies.proofs.Replies.new.Goals as goal
 
 pub returns : goal.returns

@@ -7,7 +7,7 @@ pub loop-reply-preserved : goal.loop-reply-preserved
 loop-reply-preserved g c =
     let front = c.loop-reply.invariant.0 in
     let more = text_of_replies (replies_to_come c.next.new.self) in
-    let one = c.as_slice.ensures.value ∙ c.text.ensures.bytes in (
+    let one = c.as_slice.ensures.value ∙ c.reply_text.ensures.bytes in (
       front ++ c.as_slice.result.now,
       c.loop-reply.invariant.1
           ∙ ap (λ rs. front ++ text_of_replies rs) c.in-Some.ensures.steps
@@ -21,7 +21,7 @@ returns-in_err-write_whole g c =
     let front = c.loop-reply.invariant.0 in
     let more = text_of_replies (replies_to_come c.next.new.self) in
     let part = c.in_err-write_whole.ensures in
-    let one = c.as_slice.ensures.value ∙ c.text.ensures.bytes in
+    let one = c.as_slice.ensures.value ∙ c.reply_text.ensures.bytes in
     Writing-stopped _ _ _ c.from_residual.result c.from_residual.ensures.0 (
       front ++ part.0,
       part.1 ++ more,

@@ -5,12 +5,12 @@ use Rattle.std.proofs.lemmas.Bool.{cond-true, eq-eqb}
 use Rattle.std.proofs.lemmas.Iterator.{YieldsList-from_slice, YieldsList-from_map}
 use Rattle.std.proofs.lemmas.Iterator.Consumers.{fold_from_yields_List}
 use Rattle.std.specs.List.{fold}
-use Rattle.text.specs.Reading.{digit_value, value_of}
+use Rattle.text.specs.Reading.{digit_or_zero, value_of}
 use Rattle.text.proofs.Numbers.{appended, fold_of_digits, value_of-lt}
 use Rattle.text.proofs.reading.number.Goals as goal
 
 -- the value of a field of eight digits at the most
-module _ (n : ℕ) (f : List ℕ) (r : ℕ) (h : n ≤ 8) (e : length f ≡ n) (k : r ≡ fold appended 0 (map digit_value f))
+module _ (n : ℕ) (f : List ℕ) (r : ℕ) (h : n ≤ 8) (e : length f ≡ n) (k : r ≡ fold appended 0 (map digit_or_zero f))
   where
     value : r ≡ value_of f
     value =
@@ -22,10 +22,10 @@ module _ (n : ℕ) (f : List ℕ) (r : ℕ) (h : n ≤ 8) (e : length f ≡ n) (
     value-lt : r < 16 ^ n
     value-lt = rw (← e, value) (value_of-lt f)
 
-folded : (g : _) (c : goal.After-fold g) → c.fold.result ≡ fold appended 0 (map digit_value c.args.field.now)
+folded : (g : _) (c : goal.After-fold g) → c.fold.result ≡ fold appended 0 (map digit_or_zero c.args.field.now)
 folded g c =
     fold_from_yields_List _ appended 0 _ c.fold.ensures.ran
-    (YieldsList-from_map _ digit_value (YieldsList-from_slice c.args.field.now cc) c.map-digits.ensures.closure
+    (YieldsList-from_map _ digit_or_zero (YieldsList-from_slice c.args.field.now cc) c.map-digits.ensures.closure
     (λ x r q k. search (rules, tests)))
     (λ a x b q k. search (rules, tests))
 

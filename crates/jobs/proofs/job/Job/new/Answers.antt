@@ -1,7 +1,7 @@
 use Rattle.std.proofs.Common.{◌≤◌, length, arith}
 use Rattle.jobs.specs.Job.{text_lines_of}
 use Rattle.jobs.specs.Limits.{max_job}
-use Rattle.jobs.proofs.Lines.{lines_few}
+use Rattle.jobs.proofs.TextLines.{lines_few}
 use Rattle.jobs.proofs.job.Job.new.Goals as goal
 use Rattle.jobs.proofs.job.Job.new.Goals.{then-too_long, else-too_long}
 

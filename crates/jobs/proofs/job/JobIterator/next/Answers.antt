@@ -1,6 +1,6 @@
 use Rattle.std.proofs.Common.{◌≡◌, None, refl, sym, ◌∙◌, ap}
-use Rattle.jobs.specs.Coming.{lines_left}
-use Rattle.jobs.proofs.Coming.{gives_due, gives_line, gives_none, none_left}
+use Rattle.jobs.specs.NextReply.{text_lines_left}
+use Rattle.jobs.proofs.NextReply.{gives_due, gives_line, gives_none, none_left}
 use Rattle.jobs.proofs.job.JobIterator.next.Goals as goal
 
 pub returns-in-Some-clause-steps : goal.returns-in-Some-clause-steps
@@ -15,7 +15,7 @@ returns-in_err-line-clause-steps g c =
     let none = c.in_err-line.ensures.steps in
     gives_none c.settles_as_decided.ensures c.cycles_as_decided.ensures c.promise.ensures x _ _ c.from_residual.ensures
     (sym c.take.ensures.value ∙ c.in_default.is) c.take.ensures.after refl refl refl
-    (none_left x.pile x.lines.0.now none.0) (none_left x.pile c.next.new.self.0.now none.1)
+    (none_left x.pile x.text_lines.0.now none.0) (none_left x.pile c.next.new.self.0.now none.1)
 
 pub returns-in_err-take-clause-steps : goal.returns-in_err-take-clause-steps
 returns-in_err-take-clause-steps g c =
@@ -24,8 +24,8 @@ returns-in_err-take-clause-steps g c =
     gives_none c.settles_as_decided.ensures c.cycles_as_decided.ensures c.promise.ensures x _ _
     c.from_residual-in_err-take.ensures (sym c.take.ensures.value ∙ c.in_default.is) c.take.ensures.after
     (c.take-2.ensures.after ∙ sym no_pile) refl refl
-    (ap (λ o. lines_left o x.lines.0.now) no_pile)
-    (ap (λ o. lines_left o c.next.new.self.0.now) c.take-2.ensures.after)
+    (ap (λ o. text_lines_left o x.text_lines.0.now) no_pile)
+    (ap (λ o. text_lines_left o c.next.new.self.0.now) c.take-2.ensures.after)
 
 pub returns-clause-steps : goal.returns-clause-steps
 returns-clause-steps g c =

@@ -17,15 +17,15 @@ replied n r (Err f) h = cc
 pub returns : goal.returns
 returns g c s h =
     let n = c.args.number in
-    let reply = replied n c.unwrap_or_else.result c.match-read.station.1 (search rules) in
-    elim c.match-read.branch [
+    let reply = replied n c.unwrap_or_else.result c.match-read_line.station.1 (search rules) in
+    elim c.match-read_line.branch [
       | in-Ok w ↦ (
           let done = w.do_order.ensures s h in (
             done.0,
             done.1,
             subst₂
                 (λ o rs. AnswersLine g.B.Bus.means g.B.Bus.steps (stage_of_station s h c.args.self) n o rs
-                (stage_of_station done.0 done.1 c.match-read.station.0)) w.in-Ok.ensures reply
+                (stage_of_station done.0 done.1 c.match-read_line.station.0)) w.in-Ok.ensures reply
                 (subst
                 (λ e. AnswersLine g.B.Bus.means g.B.Bus.steps (stage_of_station s h c.args.self) n
                 (Ok w.in-Ok.order) (line_replies n e.1) (stage_of_station done.0 done.1 e.0)) (sym w.station-is)
@@ -40,7 +40,7 @@ returns g c s h =
         h,
         subst₂
             (λ o rs. AnswersLine g.B.Bus.means g.B.Bus.steps (stage_of_station s h c.args.self) n o rs
-            (stage_of_station s h c.match-read.station.0)) w.in-Err.ensures reply
+            (stage_of_station s h c.match-read_line.station.0)) w.in-Err.ensures reply
             (subst
             (λ e. AnswersLine g.B.Bus.means g.B.Bus.steps (stage_of_station s h c.args.self) n (Err w.in-Err.fault)
             (line_replies n e.1) (stage_of_station s h e.0)) (sym w.station-is)

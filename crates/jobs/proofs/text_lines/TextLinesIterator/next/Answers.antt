@@ -1,6 +1,6 @@
 use Rattle.std.proofs.Common.{length, eqb, ap, arith, rules}
 use Rattle.std.proofs.lemmas.List.Sorted.{answers_always}
-use Rattle.jobs.proofs.Lines.{next_line}
+use Rattle.jobs.proofs.TextLines.{next_line}
 use Rattle.jobs.proofs.text_lines.TextLinesIterator.next.Goals as goal
 
 pub returns-clause-steps : goal.returns-clause-steps

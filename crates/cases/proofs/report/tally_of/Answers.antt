@@ -2,18 +2,18 @@ use Rattle.std.proofs.Common.{rules, ◌≡◌, ◌+◌, ◌++◌, ◌∷◌, []
 use Rattle.std.proofs.lemmas.List.{take_all, take_more}
 use Rattle.cases.specs.Report.{CountsCase, CountsCases, no_cases}
 use Rattle.cases.proofs.Counting.{counts_more}
-use Rattle.cases.proofs.report.compare.Goals as goal
+use Rattle.cases.proofs.report.tally_of.Goals as goal
 
 pub loop-case-init : goal.loop-case-init
-loop-case-init g c = search rules
+loop-case-init c = search rules
 
 pub loop-case-preserved : goal.loop-case-preserved
-loop-case-preserved g c =
+loop-case-preserved c =
     let xs = c.deref-case-items.result.now in
     let i = c.loop-case.case-index in
     let item = c.case-item.result in
     let counted : CountsCase c.loop-case.tally item c.with-tally.result = record {
-      right = c.holds-differs.result;
+      right = c.holds-right.result;
       is_right = search rules;
       cases = c.with-tally.ensures.cases;
       differ = search rules;
@@ -24,7 +24,7 @@ loop-case-preserved g c =
     (counts_more no_cases c.loop-case.tally c.with-tally.result (take i xs) item c.loop-case.invariant counted)
 
 pub returns : goal.returns
-returns g c =
+returns c =
     subst (λ ys. CountsCases no_cases ys c.loop-case.tally)
     (take_all c.loop-case.case-index c.deref-case-items.result.now c.loop-case-test.false
     ∙ c.deref-case-items.ensures.value)

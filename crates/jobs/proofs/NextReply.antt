@@ -5,8 +5,9 @@ use Rattle.bus.specs.Decided.{SettlesAsDecided}
 use Rattle.bus.specs.Meaning.{Meaning}
 use Rattle.bus.specs.declared.request.Answer.{Answer}
 use Rattle.bus.specs.declared.request.Request.{Request}
-use Rattle.jobs.specs.Coming.{Leaves, NextGives, lines_left, sight_of, job_stage, standing_of, replies_to_come}
-use Rattle.jobs.specs.Decided.{Sight, line_answer, replies_to_lines}
+use Rattle.jobs.specs.NextReply.{Leaves, NextGives, text_lines_left, stage_meaning, job_stage, standing_of}
+use Rattle.jobs.specs.NextReply.{replies_to_come}
+use Rattle.jobs.specs.Decided.{StageMeaning, line_answer, replies_to_lines}
 use Rattle.jobs.specs.Job.{AnswersNext, AnswersLine, Standing, text_lines_of}
 use Rattle.jobs.specs.Station.{StationDoes, StageIsPromised, StageIsReached, Stage, stage_of_station}
 use Rattle.jobs.specs.declared.job.Job.{Job}
@@ -21,7 +22,7 @@ use Rattle.r3000.specs.Promise.{AllKeepPromise}
 use Rattle.r3000.specs.declared.processor.Processor.{Processor}
 
 -- where no line is left of the bytes, none is left of the job
-pub none_left : {B : Type 0} (o : Option B) (bytes : List ℕ) → text_lines_of bytes ≡ [] → lines_left o bytes ≡ []
+pub none_left : {B : Type 0} (o : Option B) (bytes : List ℕ) → text_lines_of bytes ≡ [] → text_lines_left o bytes ≡ []
 none_left (Some pile) bytes e = e
 none_left None bytes e = refl
 
@@ -29,10 +30,10 @@ module _ {B : Type 0} {means : B → Meaning} {steps : B → Request → Answer 
     (settles : SettlesAsDecided means steps) (cycles : CyclesAsDecided means steps)
     (kept : (start : B) → AllKeepPromise means steps start) where
   -- a station is seen as its stage is shown, whatever is behind it
-  sight_same : (s : B) (h : History) (pile : B) (o : Option Processor)
-      → shown means (stage_of_station s h (record { pile = pile; processor = o })) ≡ sight_of means pile o
-  sight_same s h pile None = refl
-  sight_same s h pile (Some processor) = refl
+  stage_meaning_same : (s : B) (h : History) (pile : B) (o : Option Processor)
+      → shown means (stage_of_station s h (record { pile = pile; processor = o })) ≡ stage_meaning means pile o
+  stage_meaning_same s h pile None = refl
+  stage_meaning_same s h pile (Some processor) = refl
 
   -- a stage that stays keeps the promise
   stays : (e f : Stage B) → f ≡ e → StageIsReached means steps e → StageIsPromised means steps f
@@ -40,7 +41,8 @@ module _ {B : Type 0} {means : B → Meaning} {steps : B → Request → Answer 
 
   -- a reply that was due
   pub gives_due : (x y : Job B) (d : Reply) → x.due ≡ Some d → y.due ≡ None → y.pile ≡ x.pile
-      → y.processor ≡ x.processor → y.number ≡ x.number → y.lines ≡ x.lines → NextGives means steps x (Some d) y
+      → y.processor ≡ x.processor → y.number ≡ x.number → y.text_lines ≡ x.text_lines
+      → NextGives means steps x (Some d) y
   gives_due x y d was now station chip number lines =
       record {
         turns = λ s h.
@@ -49,28 +51,28 @@ module _ {B : Type 0} {means : B → Meaning} {steps : B → Request → Answer 
               due = d ∷ [];
               stage = job_stage s h x.pile x.processor;
               number = x.number;
-              left = lines_left x.pile x.lines.0.now;
+              left = text_lines_left x.pile x.text_lines.0.now;
             } in
             let after : Standing B =
             record {
               due = [];
               stage = job_stage s h x.pile x.processor;
               number = x.number;
-              left = lines_left x.pile x.lines.0.now;
+              left = text_lines_left x.pile x.text_lines.0.now;
             } in
             let seen : standing_of s h x ≡ before =
             λ i. record {
               due = option_to_list (was i);
               stage = job_stage s h x.pile x.processor;
               number = x.number;
-              left = lines_left x.pile x.lines.0.now;
+              left = text_lines_left x.pile x.text_lines.0.now;
             } in
             let left : standing_of s h y ≡ after =
             λ i. record {
               due = option_to_list (now i);
               stage = job_stage s h (station i) (chip i);
               number = number i;
-              left = lines_left (station i) (lines i).0.now;
+              left = text_lines_left (station i) (lines i).0.now;
             } in
             record {
               pile = s;
@@ -84,20 +86,20 @@ module _ {B : Type 0} {means : B → Meaning} {steps : B → Request → Answer 
                   (λ rs h. (h.0, h.1, ap (λ qs. d ∷ qs) h.2, h.3));
             };
         exact = λ next decided.
-            (λ i. option_to_list (was i) ++ rest next x.pile x.processor x.number x.lines.0.now)
+            (λ i. option_to_list (was i) ++ rest next x.pile x.processor x.number x.text_lines.0.now)
             ∙ sym (λ i. d ∷ (option_to_list (now i) ++ rest next (station i) (chip i) (number i) (lines i).0.now));
       }
     where
       rest : (Meaning → Request → Meaning) → Option B → Option Processor → ℕ → List ℕ → List Reply
       rest next o p n bytes = elim o [
-        | Some pile ↦ replies_to_lines next (sight_of means pile p) n (text_lines_of bytes)
+        | Some pile ↦ replies_to_lines next (stage_meaning means pile p) n (text_lines_of bytes)
         | None ↦ []
       ]
 
   -- no reply
   pub gives_none : (x y : Job B) (r : Option Reply) → r ≡ None → x.due ≡ None → y.due ≡ None → y.pile ≡ x.pile
-      → y.processor ≡ x.processor → y.number ≡ x.number → lines_left x.pile x.lines.0.now ≡ []
-      → lines_left y.pile y.lines.0.now ≡ [] → NextGives means steps x r y
+      → y.processor ≡ x.processor → y.number ≡ x.number → text_lines_left x.pile x.text_lines.0.now ≡ []
+      → text_lines_left y.pile y.text_lines.0.now ≡ [] → NextGives means steps x r y
   gives_none x y r none_given was now station chip number none still =
       subst (λ q. NextGives means steps x q y) (sym none_given)
       (record {
@@ -133,21 +135,22 @@ module _ {B : Type 0} {means : B → Meaning} {steps : B → Request → Answer 
       })
     where
       rest : (next : Meaning → Request → Meaning) (o : Option B) (p : Option Processor) (n : ℕ) (bytes : List ℕ)
-          → lines_left o bytes ≡ [] → ◌≡◌ {A = List Reply} (elim o [
-            | Some pile ↦ replies_to_lines next (sight_of means pile p) n (text_lines_of bytes)
+          → text_lines_left o bytes ≡ [] → ◌≡◌ {A = List Reply} (elim o [
+            | Some pile ↦ replies_to_lines next (stage_meaning means pile p) n (text_lines_of bytes)
             | None ↦ []
           ]) []
-      rest next (Some pile) p n bytes e = ap (replies_to_lines next (sight_of means pile p) n) e
+      rest next (Some pile) p n bytes e = ap (replies_to_lines next (stage_meaning means pile p) n) e
       rest next None p n bytes e = refl
 
-      nothing : (next : Meaning → Request → Meaning) (z : Job B) → z.due ≡ None → lines_left z.pile z.lines.0.now ≡ []
+      nothing : (next : Meaning → Request → Meaning) (z : Job B) → z.due ≡ None
+          → text_lines_left z.pile z.text_lines.0.now ≡ []
           → replies_to_come means next z ≡ []
       nothing next z due left =
-          ap₂ (λ u v. option_to_list u ++ v) due (rest next z.pile z.processor z.number z.lines.0.now left)
+          ap₂ (λ u v. option_to_list u ++ v) due (rest next z.pile z.processor z.number z.text_lines.0.now left)
 
   -- a line that was done
   pub gives_line : (x y : Job B) (pile : B) (after : Station B) (l : List ℕ) (r : Reply) → x.due ≡ None
-      → x.pile ≡ Some pile → text_lines_of x.lines.0.now ≡ l ∷ text_lines_of y.lines.0.now
+      → x.pile ≡ Some pile → text_lines_of x.text_lines.0.now ≡ l ∷ text_lines_of y.text_lines.0.now
       → y.due ≡ None → y.pile ≡ Some after.pile → y.processor ≡ after.processor → y.number ≡ x.number + 1
       → StationDoes means steps (λ e f. AnswersLine means steps e x.number (read_line l) (r ∷ []) f)
       (record { pile = pile; processor = x.processor }) after → NextGives means steps x (Some r) y
@@ -160,14 +163,14 @@ module _ {B : Type 0} {means : B → Meaning} {steps : B → Request → Answer 
               due = [];
               stage = stage_of_station s h st;
               number = x.number;
-              left = l ∷ text_lines_of y.lines.0.now;
+              left = l ∷ text_lines_of y.text_lines.0.now;
             } in
             let end : Standing B =
             record {
               due = [];
               stage = stage_of_station done.0 done.1 after;
               number = x.number + 1;
-              left = text_lines_of y.lines.0.now;
+              left = text_lines_of y.text_lines.0.now;
             } in
             let seen : standing_of s h x ≡ before =
             (λ i.
@@ -175,7 +178,7 @@ module _ {B : Type 0} {means : B → Meaning} {steps : B → Request → Answer 
               due = option_to_list (was i);
               stage = job_stage s h (station i) x.processor;
               number = x.number;
-              left = lines_left (station i) x.lines.0.now;
+              left = text_lines_left (station i) x.text_lines.0.now;
             })
             ∙ (λ i. record { due = []; stage = stage_of_station s h st; number = x.number; left = lines i })
             in
@@ -184,7 +187,7 @@ module _ {B : Type 0} {means : B → Meaning} {steps : B → Request → Answer 
               due = option_to_list (now i);
               stage = job_stage done.0 done.1 (still i) (chip i);
               number = number i;
-              left = lines_left (still i) y.lines.0.now;
+              left = text_lines_left (still i) y.text_lines.0.now;
             } in
             record {
               pile = done.0;
@@ -210,21 +213,24 @@ module _ {B : Type 0} {means : B → Meaning} {steps : B → Request → Answer 
             let turn =
             answers_line settles cycles next decided (stage_of_station pile no_history st)
             (stage_of_station done.0 done.1 after) x.number (read_line l) (r ∷ []) done.2 in
-            let at = λ (e : Sight). line_answer next e x.number (read_line l) in
-            let here : Sight = sight_of means pile x.processor in
+            let at = λ (e : StageMeaning). line_answer next e x.number (read_line l) in
+            let here : StageMeaning = stage_meaning means pile x.processor in
             let replied : r ∷ [] ≡ (at here).reply =
-            turn.0 ∙ ap (λ e. (at e).reply) (sight_same pile no_history pile x.processor) in
-            let then : sight_of means after.pile after.processor ≡ (at here).then =
-            sym (sight_same done.0 done.1 after.pile after.processor) ∙ turn.1
-            ∙ ap (λ e. (at e).then) (sight_same pile no_history pile x.processor) in
+            turn.0 ∙ ap (λ e. (at e).reply) (stage_meaning_same pile no_history pile x.processor) in
+            let then : stage_meaning means after.pile after.processor ≡ (at here).then =
+            sym (stage_meaning_same done.0 done.1 after.pile after.processor) ∙ turn.1
+            ∙ ap (λ e. (at e).then) (stage_meaning_same pile no_history pile x.processor) in
             (λ i. option_to_list (was i) ++ elim (station i) [
-              | Some z ↦ replies_to_lines next (sight_of means z x.processor) x.number (text_lines_of x.lines.0.now)
+              | Some z ↦ replies_to_lines next (stage_meaning means z x.processor) x.number
+                  (text_lines_of x.text_lines.0.now)
               | None ↦ []
             ])
             ∙ ap (replies_to_lines next here x.number) lines
-            ∙ sym (ap₂ (λ u v. u ++ replies_to_lines next v (x.number + 1) (text_lines_of y.lines.0.now)) replied then)
+            ∙ sym (ap₂ (λ u v. u ++ replies_to_lines next v (x.number + 1)
+            (text_lines_of y.text_lines.0.now)) replied then)
             ∙ sym (λ i. r ∷ (option_to_list (now i) ++ elim (still i) [
-              | Some z ↦ replies_to_lines next (sight_of means z (chip i)) (number i) (text_lines_of y.lines.0.now)
+              | Some z ↦ replies_to_lines next (stage_meaning means z (chip i)) (number i)
+                  (text_lines_of y.text_lines.0.now)
               | None ↦ []
             ]));
       }

@@ -5,8 +5,8 @@ use Rattle.bus.specs.Decided.{IsDecided}
 use Rattle.bus.specs.Meaning.{Meaning}
 use Rattle.bus.specs.declared.request.Answer.{Answer}
 use Rattle.bus.specs.declared.request.Request.{Request}
-use Rattle.jobs.specs.Decided as sight
-use Rattle.jobs.specs.Decided.{Sight, replies_to_lines}
+use Rattle.jobs.specs.Decided as by_meaning
+use Rattle.jobs.specs.Decided.{StageMeaning, replies_to_lines}
 use Rattle.jobs.specs.Job.{AnswersNext, Standing, AreToCome, text_lines_of}
 use Rattle.jobs.specs.Station.{StageIsPromised, StageIsReached, Stage, loading, stage_of_station}
 use Rattle.jobs.specs.declared.job.Job.{Job}
@@ -24,9 +24,9 @@ module _ {B : Type 0} where
   job_stage s h None processor = loading s
 
   -- the lines that are left of a job's bytes; without a pile none are
-  abbrev pub lines_left : Option B → List ℕ → List (List ℕ)
-  lines_left (Some pile) bytes = text_lines_of bytes
-  lines_left None bytes = []
+  abbrev pub text_lines_left : Option B → List ℕ → List (List ℕ)
+  text_lines_left (Some pile) bytes = text_lines_of bytes
+  text_lines_left None bytes = []
 
   -- where a job stands, on the pile of its start and with a history behind it
   abbrev pub standing_of : B → History → Job B → Standing B
@@ -35,27 +35,29 @@ module _ {B : Type 0} where
         due = option_to_list x.due;
         stage = job_stage s h x.pile x.processor;
         number = x.number;
-        left = lines_left x.pile x.lines.0.now;
+        left = text_lines_left x.pile x.text_lines.0.now;
       }
 
   module _ (means : B → Meaning) where
-    -- a pile and its processor, so
-    abbrev pub sight_of : B → Option Processor → Sight
-    sight_of pile None = sight.loading (means pile)
-    sight_of pile (Some processor) = sight.running (core_meaning means (machine_of_parts no_history processor pile))
+    -- what a pile and its processor mean
+    abbrev pub stage_meaning : B → Option Processor → StageMeaning
+    stage_meaning pile None = by_meaning.loading (means pile)
+    stage_meaning pile (Some processor) =
+        by_meaning.running (core_meaning means (machine_of_parts no_history processor pile))
 
     -- on a decided memory the replies that are still to come of a job are these
     abbrev pub replies_to_come : (Meaning → Request → Meaning) → Job B → List Reply
     replies_to_come next x =
         option_to_list x.due
         ++ elim x.pile [
-          | Some pile ↦ replies_to_lines next (sight_of pile x.processor) x.number (text_lines_of x.lines.0.now)
+          | Some pile ↦ replies_to_lines next (stage_meaning pile x.processor) x.number
+              (text_lines_of x.text_lines.0.now)
           | None ↦ []
         ]
 
     module _ (steps : B → Request → Answer → B → Type 0) where
-      -- what a reply that was given leaves to come: whatever comes after it is, with it, what came before; and none is
-      -- given only where none is to come
+      -- what a call of next leaves to come: behind a reply that it gives, all that is still to come, so that none is
+      -- lost or given twice; and it gives none only where none is to come
       abbrev pub Leaves : Standing B → Option Reply → Standing B → Type 0
       Leaves x r y =
           MatchOption r (AreToCome means steps x [])

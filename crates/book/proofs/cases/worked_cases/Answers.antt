@@ -1,6 +1,6 @@
 -- The worked cases, computed.
 use Rattle.std.proofs.Common.{refl}
-use Rattle.book.proofs.law.worked_cases.Goals as goal
+use Rattle.book.proofs.cases.worked_cases.Goals as goal
 
 pub returns : goal.returns
 returns c =

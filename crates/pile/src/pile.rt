@@ -3,7 +3,7 @@
 ghost use Rattle.std.specs.Prelude.{◌≡◌, replicate};
 ghost use Rattle.bus.specs.Decided.{IsDecided};
 ghost use Rattle.pile.specs.Decided.{meaning_after};
-ghost use Rattle.pile.specs.Job.{PileSteps, high_length, job_pile, low_length, pile_means};
+ghost use Rattle.pile.specs.Pile.{PileSteps, high_length, job_pile, low_length, pile_means};
 
 use bus::memory::Bus;
 use layers::delay::Delay;
@@ -56,8 +56,8 @@ impl Memories {
     }
 }
 
-/// A theorem: the pile is decided. After each request its meaning is exactly `meaning_after` of the one before. Who calls
-/// it has its contract.
+/// A theorem: the pile is decided. After each request its meaning is exactly `meaning_after` of the one before. A
+/// caller gets it from the contract.
 pub fn pile_is_decided()
     ensures { IsDecided pile_means PileSteps meaning_after }
 {

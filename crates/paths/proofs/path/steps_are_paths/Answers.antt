@@ -1,7 +1,7 @@
 use Rattle.std.proofs.Common.{refl, inl, None}
 use Rattle.paths.proofs.Steps.{steps_are_paths_lem}
 use Rattle.paths.proofs.Still.{still_keeps}
-use Rattle.paths.proofs.law.steps_are_paths.Goals as goal
+use Rattle.paths.proofs.path.steps_are_paths.Goals as goal
 
 pub returns : goal.returns
 returns c =

@@ -2,7 +2,7 @@ use Rattle.std.proofs.Common.{rules, tests}
 use Rattle.std.proofs.lemmas.Iterator.Search.{all_from_yields_List}
 use Rattle.std.proofs.lemmas.Iterator.Splits.{YieldsList-from_slice_split}
 use Rattle.text.specs.Reading.{is_in_form}
-use Rattle.text.proofs.reading.is_formed.Goals as goal
+use Rattle.text.proofs.reading.is_line_in_form.Goals as goal
 
 pub returns : goal.returns
 returns c =

@@ -1,11 +1,12 @@
-//! What is proved of the book and the rows.
+//! Each step of the book is a path of rows.
 
 ghost use Rattle.paths.specs.Instant.{StillKeeps};
 ghost use Rattle.paths.specs.Path.{Begins, StepsArePaths};
 
-use machine::law::words_stay_words;
+use machine::words::words_stay_words;
 
-/// A theorem: each step of the book is a path of rows of exactly the book's length. Who calls it has its contract.
+/// A theorem: each step of the book is a path of rows of exactly the book's length. A caller gets it from the
+/// contract.
 pub fn steps_are_paths()
     ensures memory { StillKeeps }
     ensures paths { StepsArePaths }

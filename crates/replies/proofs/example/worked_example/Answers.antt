@@ -1,5 +1,5 @@
 use Rattle.replies.proofs.Computed.{example_holds}
-use Rattle.replies.proofs.example.first_job.Goals as goal
+use Rattle.replies.proofs.example.worked_example.Goals as goal
 
 pub returns-clause-replies : goal.returns-clause-replies
 returns-clause-replies c = example_holds

@@ -1,22 +1,6 @@
-//! What is proved of the book.
+//! Worked cases of the book.
 
-ghost use Rattle.std.specs.Prelude.{◌≡◌};
 ghost use Rattle.book.specs.Cases.{CasesHold};
-ghost use Rattle.book.specs.Fit.{BeginsFit, StepsFit};
-ghost use Rattle.book.specs.Length.{LongestStep};
-
-use machine::law::words_stay_words;
-
-/// The most cycles that a step of the book takes. The book begins with words in its registers and bytes in its memory,
-/// and every step keeps that.
-pub fn longest_step() -> u8
-    ensures begins { BeginsFit }
-    ensures words { StepsFit }
-    ensures longest { LongestStep result }
-{
-    words_stay_words();
-    7
-}
 
 /// The words that the worked cases come to, each by the name that `specs/Cases.antt` gives it.
 #[derive(Clone, Copy)]
