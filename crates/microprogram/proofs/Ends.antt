@@ -2,8 +2,9 @@
 use Rattle.std.proofs.Common.{◌≡◌, ℕ, zero, suc, ◌+◌, ◌-◌, ◌<◌, ◌≤◌, Bool, true, false, ◌&&◌, T, ltb, leb, List, []}
 use Rattle.std.proofs.Common.{◌∷◌, ◌⊎◌, refl, subst, inl, inr, Contains, arith}
 use Rattle.std.proofs.lemmas.Bool.{cases_eq, leb-true, true≢false}
+use Rattle.std.specs.List.{list_all}
 use Rattle.rows.specs.Rows.{row_at, row_count, rows}
-use Rattle.microprogram.specs.Bounds.{IsLeast, RowsEnd, access_count, all, ends_within, path_budget, row_passes}
+use Rattle.microprogram.specs.Bounds.{IsLeast, RowsEnd, access_count, ends_within, path_budget, row_passes}
 use Rattle.microprogram.specs.Bounds.{successors}
 use Rattle.microprogram.specs.Cycle.{ends_path}
 use Rattle.microprogram.specs.declared.bounds.Budget.{Budget}
@@ -60,10 +61,10 @@ apart true b h e = absurd (true≢false e)
 apart false b h e = h
 
 -- what all numbers of a list pass each of them passes
-each : (p : ℕ → Bool) (ns : List ℕ) (n : ℕ) → Contains ns n → T (all p ns) → T (p n)
+each : (p : ℕ → Bool) (ns : List ℕ) (n : ℕ) → Contains ns n → T (list_all p ns) → T (p n)
 each p [] n c h = absurd (omega (arith, c.1))
-each p (m ∷ ms) n (zero, l, e) h = subst (λ k. T (p k)) e (left (p m) (all p ms) h)
-each p (m ∷ ms) n (suc k, l, e) h = each p ms n (k, omega arith, e) (right (p m) (all p ms) h)
+each p (m ∷ ms) n (zero, l, e) h = subst (λ k. T (p k)) e (left (p m) (list_all p ms) h)
+each p (m ∷ ms) n (suc k, l, e) h = each p ms n (k, omega arith, e) (right (p m) (list_all p ms) h)
 
 -- and what it leaves of the budget is enough for each row that can follow
 on : (r touch n m : ℕ) → T (ends_within r touch n) → ends_path (row_at n).sequencing ≡ false
@@ -80,7 +81,7 @@ on (suc k) touch n m h e c = (
 )
 
 passes : (b : Budget) → RowsEnd b → (n : ℕ) → n < row_count → T (ends_within b.rows b.accesses n)
-passes b h n l = right (all (λ k. ltb k row_count) (successors (row_at n).sequencing (row_at n).amic)) _ (h n l)
+passes b h n l = right (list_all (λ k. ltb k row_count) (successors (row_at n).sequencing (row_at n).amic)) _ (h n l)
 
 -- a branch with a link that is taken: init, bcond, bltzal, bltz, branch-e, branch, ifetch-e
 seven : (b : Budget) → RowsEnd b → 7 ≤ b.rows

@@ -1,6 +1,7 @@
 -- How the rows hang together: one test over all of them, and what it says. Assumes nothing.
 use Rattle.std.specs.Prelude.{ℕ, zero, suc, ◌+◌, ◌-◌, ◌*◌, ◌/◌, ◌<◌, ◌≤◌, Bool, true, false, ◌&&◌, T, List, [], ◌∷◌}
 use Rattle.std.specs.Prelude.{nat_le, nat_lt, Contains}
+use Rattle.std.specs.List.{list_all}
 use Rattle.machine.specs.Registers.{Regs}
 use Rattle.rows.specs.Rows.{row_at, row_count}
 use Rattle.rows.specs.declared.row.Sequencing.{Sequencing}
@@ -35,10 +36,6 @@ abbrev pub access_count : Transfer → ℕ
 access_count m.Nop = 0
 access_count _ = 1
 
-abbrev pub all : (ℕ → Bool) → List ℕ → Bool
-all p [] = true
-all p (n ∷ ns) = p n && all p ns
-
 -- every way on from a row comes to the end of its path within so many rows, itself counted, and so many accesses
 unfoldable pub ends_within : ℕ → ℕ → ℕ → Bool
 ends_within zero touch n = false
@@ -46,14 +43,15 @@ ends_within (suc rows) touch n =
     nat_le (access_count (row_at n).transfer) touch
     && elim (ends_path (row_at n).sequencing) [
       | true ↦ true
-      | false ↦ all (ends_within rows (touch - access_count (row_at n).transfer))
+      | false ↦ list_all (ends_within rows (touch - access_count (row_at n).transfer))
           (successors (row_at n).sequencing (row_at n).amic)
     ]
 
 -- the test of one row: its successors are rows, and every way on from it ends within the budget
 abbrev pub row_passes : Budget → ℕ → Bool
 row_passes b n =
-    all (λ k. nat_lt k row_count) (successors (row_at n).sequencing (row_at n).amic) && ends_within b.rows b.accesses n
+    list_all (λ k. nat_lt k row_count) (successors (row_at n).sequencing (row_at n).amic)
+    && ends_within b.rows b.accesses n
 
 -- from every row at most so many rows, itself counted, lead to one that ends a path; at most so many of them access
 -- memory; and every row that is listed as its successor is one of the 1,024

@@ -2,12 +2,13 @@
 use Rattle.std.proofs.Common.{◌≡◌, ℕ, zero, suc, ◌+◌, ◌-◌, ◌*◌, ◌<◌, ◌≤◌, Bool, true, false, cond, T, ltb, leb, ◌∷◌}
 use Rattle.std.proofs.Common.{Some, None, Option, sym, refl, ap, ◌∙◌, subst, add-mul, sub-add_cancel, arith}
 use Rattle.std.proofs.lemmas.Bool.{leb-true, ltb-true, true≢false}
+use Rattle.std.specs.List.{list_all}
 use Rattle.bus.specs.Meaning.{Keeps, Meaning, IsSound}
 use Rattle.bus.specs.declared.request.Access.{Access}
 use Rattle.bus.specs.declared.request.Answer.{Answer}
 use Rattle.bus.specs.declared.request.Request.{Request}
 use Rattle.microprogram.specs.Cycle.{State, ends_path, request_of, row_access, unless_flagged}
-use Rattle.microprogram.specs.Bounds.{access_count, all, ends_within, path_budget, successors}
+use Rattle.microprogram.specs.Bounds.{access_count, ends_within, path_budget, successors}
 use Rattle.machine.specs.Registers.{Regs}
 use Rattle.machine.specs.declared.fault.Fault.{Fault}
 use Rattle.r3000.specs.Cycle.{Cycle, next_request}
@@ -63,7 +64,7 @@ apart false b h e = h
 -- and the rest of the path is one row shorter
 rest : (rows touch : ℕ) (c : State) → T (ends_within rows touch c.row) → ends_path (current_row c).sequencing ≡ false
     → (n : ℕ) × (rows ≡ n + 1)
-    × T (all (ends_within n (touch - touches c)) (successors (current_row c).sequencing (current_row c).amic))
+    × T (list_all (ends_within n (touch - touches c)) (successors (current_row c).sequencing (current_row c).amic))
 unfolding ends_within
 rest zero touch c h e = absurd h
 rest (suc rows) touch c h e =
@@ -119,7 +120,7 @@ module _ {S : Type 0} {means : S → Meaning} {steps : S → Request → Answer 
 
   -- the row after an unfrozen cycle, if all successors have it
   next : (p : ℕ → Bool) (c d : Machine S) → Cycle steps c false d
-      → T (all p (successors (current_row c.processor.state).sequencing (current_row c.processor.state).amic))
+      → T (list_all p (successors (current_row c.processor.state).sequencing (current_row c.processor.state).amic))
       → T (p d.processor.state.row)
   next p c d h all =
       subst (λ s. T (p s.row)) (sym (state_of h))
@@ -164,7 +165,7 @@ module _ {S : Type 0} {means : S → Meaning} {steps : S → Request → Answer 
   soon_on since c d h e near = go (rest near.rows near.touch c.processor.state near.path e)
     where
       go : (n : ℕ) × (near.rows ≡ n + 1)
-          × T (all (ends_within n (near.touch - touches c.processor.state))
+          × T (list_all (ends_within n (near.touch - touches c.processor.state))
           (successors (current_row c.processor.state).sequencing (current_row c.processor.state).amic))
           → Soon (since + 1) d
       go r =

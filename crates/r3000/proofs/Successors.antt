@@ -2,7 +2,8 @@
 -- Assumes nothing.
 use Rattle.std.proofs.Common.{◌≡◌, ℕ, zero, suc, Bool, false, T, List, [], ◌∷◌, refl, subst, Contains, arith}
 use Rattle.std.proofs.lemmas.Bool.{true≢false}
-use Rattle.microprogram.specs.Bounds.{RowsAreListed, all, successors}
+use Rattle.std.specs.List.{list_all}
+use Rattle.microprogram.specs.Bounds.{RowsAreListed, successors}
 use Rattle.microprogram.specs.Cycle.{ends_path, next_row}
 use Rattle.machine.specs.Registers.{Regs}
 use Rattle.r3000.proofs.Tests.{left, right}
@@ -10,14 +11,14 @@ use Rattle.rows.specs.declared.row.Sequencing.{Sequencing}
 use Rattle.rows.specs.declared.row.Sequencing.TheVariants as s
 
 -- what all numbers of a list pass each of them passes
-each : (p : ℕ → Bool) (ns : List ℕ) (n : ℕ) → Contains ns n → T (all p ns) → T (p n)
+each : (p : ℕ → Bool) (ns : List ℕ) (n : ℕ) → Contains ns n → T (list_all p ns) → T (p n)
 each p [] n c h = absurd (omega (arith, c.1))
-each p (m ∷ ms) n (zero, l, e) h = subst (λ k. T (p k)) e (left (p m) (all p ms) h)
-each p (m ∷ ms) n (suc k, l, e) h = each p ms n (k, omega arith, e) (right (p m) (all p ms) h)
+each p (m ∷ ms) n (zero, l, e) h = subst (λ k. T (p k)) e (left (p m) (list_all p ms) h)
+each p (m ∷ ms) n (suc k, l, e) h = each p ms n (k, omega arith, e) (right (p m) (list_all p ms) h)
 
 pub follows : RowsAreListed
     → (p : ℕ → Bool) (q : Sequencing) (amic : ℕ) (g : Regs) (res : ℕ) (zero? : Bool) (lines : ℕ) (flag : Bool)
-    → T (all p (successors q amic)) → T (p (next_row q amic g res zero? lines flag))
+    → T (list_all p (successors q amic)) → T (p (next_row q amic g res zero? lines flag))
 follows listed p q amic g res z lines flag h =
     each p (successors q amic) (next_row q amic g res z lines flag) (listed q amic g res z lines flag) h
 
