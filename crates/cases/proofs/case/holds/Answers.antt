@@ -19,7 +19,7 @@ loop-reply-preserved c =
     let here : text_of_replies (replies_to_come c.loop-reply.reply-iterator) ≡ reply_text c.in-Some.reply ++ after
     = ap text_of_replies c.in-Some.ensures.steps in
     let text : c.as_slice.result.now ≡ reply_text c.in-Some.reply = c.as_slice.ensures.value
-        ∙ c.reply_text.ensures.bytes in
+    ∙ c.reply_text.ensures.bytes in
     let cases = c.in-Some-strip_prefix.ensures.cases in
     let same = subst (λ t. pointwise eqb (take (length t) c.loop-reply.rest.now) t ≡ true) text cases.0 in
     let left = cases.1 ∙ ap (λ t. drop (length t) c.loop-reply.rest.now) text in
@@ -34,7 +34,7 @@ returns-in-None-strip_prefix c =
     let here : text_of_replies (replies_to_come c.loop-reply.reply-iterator) ≡ reply_text c.in-Some.reply ++ after
     = ap text_of_replies c.in-Some.ensures.steps in
     let text : c.as_slice.result.now ≡ reply_text c.in-Some.reply = c.as_slice.ensures.value
-        ∙ c.reply_text.ensures.bytes in
+    ∙ c.reply_text.ensures.bytes in
     let cases = c.in-None-strip_prefix.ensures.cases in
     let other = subst (λ t. pointwise eqb (take (length t) c.loop-reply.rest.now) t ≡ false) text cases in
     let differ = differs (reply_text c.in-Some.reply) after c.loop-reply.rest.now other in
