@@ -46,31 +46,37 @@ fn add_plain(case: &mut Case<'_>, line: &str) -> Result<()> {
     if let Some(order) = order.strip_prefix('>') {
         end_line(&mut case.job, order.trim())?;
     } else if let Some(order) = order.strip_prefix('=') {
-        end_line(&mut case.job, order.trim())?;
-        let (kind, _) = order
-            .trim()
-            .split_at_checked(2)
-            .context("no kind behind =")?;
-        end_reply(&mut case.replies, kind)?;
+        add_with_kind(case, order.trim())?;
     } else {
         ensure!(order.is_empty() && reply.is_some(), "a line with no mark");
     }
     add_reply(case, reply)
 }
 
+/// Adds a line of the job that is answered by its kind.
+fn add_with_kind(case: &mut Case<'_>, order: &str) -> Result<()> {
+    end_line(&mut case.job, order)?;
+    let (kind, _) = order.split_at_checked(2).context("no kind behind =")?;
+    end_reply(&mut case.replies, kind)?;
+    Ok(())
+}
+
 /// Adds bytes of the job as they stand in quotes, so many times, and the reply behind them.
 fn add_exact(case: &mut Case<'_>, quoted: &str) -> Result<()> {
     let (bytes, rest) = quoted.split_once('"').context("a quote has no end")?;
     let (times, reply) = split_reply(rest);
-    let times = if times.is_empty() {
-        1
-    } else {
-        times.parse::<u32>().context("no number behind a quote")?
-    };
-    for _ in 0..times {
+    for _ in 0..repetitions(times)? {
         unescape(&mut case.job, bytes)?;
     }
     add_reply(case, reply)
+}
+
+/// The number behind a quote; once where there is none.
+fn repetitions(number: &str) -> Result<u32> {
+    if number.is_empty() {
+        return Ok(1);
+    }
+    number.parse().context("no number behind a quote")
 }
 
 /// What stands in front of a reply, and the reply, without the comment behind both.
