@@ -1,6 +1,6 @@
 //! Reading a file of cases. `data/README.md` says what its lines are.
 
-ghost use Rattle.std.specs.Prelude.{◌≡◌, ◌++◌, ◌∷◌, ◌⊎◌, [], OnErr, OnOk};
+ghost use Rattle.std.specs.Prelude.{◌≡◌, ◌+◌, ◌<◌, ◌++◌, ◌∷◌, ◌⊎◌, [], length, vec_capacity, vec_len, IsOk, OnErr, OnOk};
 ghost use Rattle.text.specs.Form.{line_end};
 
 use super::case::Case;
@@ -101,6 +101,7 @@ fn end_line(job: &mut Vec<u8>, line: &str) -> Result<(), AllocError>
     ensures ok { OnOk result (job.new.items ≡ job.old.items ++ line.now ++ line_end ∷ []) }
     ensures err { OnErr result
         ((job.new.items ≡ job.old.items) ⊎ (job.new.items ≡ job.old.items ++ line.now)) }
+    ensures succeeds { vec_len job.old + length line.now < vec_capacity job.old → IsOk result }
 {
     job.extend_from_slice(line.as_bytes())?;
     job.push(LINE_END)?;
