@@ -50,28 +50,28 @@ return_bits sr h =
     let low : bit_and (sr / 4) 15 ≡ sr / 4 % 16 = and_mask (sr / 4) 4 in
     rw low (four_low sr (sr / 4 % 16) h (omega arith))
 
-pub code_bits : (code cr : ℕ) → code < 16 → cr < 2 ^ 32
-    → bit_or (bit_and cr 4294967232) (code * 4 % 4294967296) ≡ cr_on_entry code cr
-code_bits code cr few h =
+pub code_bits : (code old : ℕ) → code < 16 → old < 2 ^ 32
+    → bit_or (bit_and old 4294967232) (code * 4 % 4294967296) ≡ cr_on_entry code old
+code_bits code old few h =
     let low : code * 4 % 4294967296 ≡ code * 4 = omega arith in
-    rw low (six_low cr (code * 4) h (omega arith))
+    rw low (six_low old (code * 4) h (omega arith))
 
 -- the lines between the high and the low bits of CR
-pub line_bits : (lines cr m : ℕ) → cr < 2 ^ 32 → m ≡ bit_and lines 63
-    → bit_or (bit_and cr 4294902783) (m * 1024 % 4294967296) ≡ cr_with_lines lines cr
-line_bits lines cr m h e =
+pub line_bits : (lines old m : ℕ) → old < 2 ^ 32 → m ≡ bit_and lines 63
+    → bit_or (bit_and old 4294902783) (m * 1024 % 4294967296) ≡ cr_with_lines lines old
+line_bits lines old m h e =
     let few : m ≡ lines % 64 = e ∙ and_mask lines 6 in
-    let taken : bit_and 64512 cr ≡ cr / 1024 % 64 * 1024 = and_comm 64512 cr ∙ and_high cr 6 10 in
-    let left : bit_and 4294902783 cr + bit_and 64512 cr ≡ cr = and-not 32 64512 cr (omega arith) h in
-    let kept : bit_and cr 4294902783 ≡ cr / 65536 * 65536 + cr % 1024 =
-    and_comm cr 4294902783 ∙ omega (arith, taken, left) in
+    let taken : bit_and 64512 old ≡ old / 1024 % 64 * 1024 = and_comm 64512 old ∙ and_high old 6 10 in
+    let left : bit_and 4294902783 old + bit_and 64512 old ≡ old = and-not 32 64512 old (omega arith) h in
+    let kept : bit_and old 4294902783 ≡ old / 65536 * 65536 + old % 1024 =
+    and_comm old 4294902783 ∙ omega (arith, taken, left) in
     let line : m * 1024 % 4294967296 ≡ 0 * 65536 + lines % 64 * 1024 = omega (arith, few) in
-    let whole : bit_or (cr / 65536 * 65536 + cr % 1024) (0 * 65536 + lines % 64 * 1024)
-    ≡ bit_or (cr / 65536) 0 * 65536 + bit_or (cr % 1024) (lines % 64 * 1024) =
-    or_block 16 (cr / 65536) 0 (cr % 1024) (lines % 64 * 1024) (omega arith) (omega arith) in
-    let high : bit_or (cr / 65536) 0 ≡ cr / 65536 = or_zero_r (cr / 65536) in
-    let low : bit_or (cr % 1024) (lines % 64 * 1024) ≡ lines % 64 * 1024 + cr % 1024 =
-    or_shifted_r (lines % 64) 10 (cr % 1024) (omega arith) in
+    let whole : bit_or (old / 65536 * 65536 + old % 1024) (0 * 65536 + lines % 64 * 1024)
+    ≡ bit_or (old / 65536) 0 * 65536 + bit_or (old % 1024) (lines % 64 * 1024) =
+    or_block 16 (old / 65536) 0 (old % 1024) (lines % 64 * 1024) (omega arith) (omega arith) in
+    let high : bit_or (old / 65536) 0 ≡ old / 65536 = or_zero_r (old / 65536) in
+    let low : bit_or (old % 1024) (lines % 64 * 1024) ≡ lines % 64 * 1024 + old % 1024 =
+    or_shifted_r (lines % 64) 10 (old % 1024) (omega arith) in
     ap₂ bit_or kept line ∙ whole ∙ omega (arith, high, low)
 
 -- the lines that SR lets in
