@@ -34,7 +34,7 @@ impl Tally {
 
 /// The head of the table.
 pub(crate) fn head(rt: &impl Print) -> io::Result<()> {
-    println!(rt; "{:<26} {:>5} {:>6}", "file", "cases", "differ")
+    println!(rt; "file                       cases differ")
 }
 
 /// A row of the table.

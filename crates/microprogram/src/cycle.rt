@@ -1,9 +1,9 @@
 //! One cycle, as functions of values.
 
 ghost use Rattle.std.specs.Prelude.{◌≡◌, ◌<◌};
-ghost use Rattle.machine.specs.Registers.{general_with, regs_of};
+ghost use Rattle.machine.specs.Registers.{general_with, regs_of, with_ir};
 ghost use Rattle.microprogram.specs.Cycle.{chip_state, state_at_power_up, regs_with_result, row_access, row_output};
-ghost use Rattle.microprogram.specs.Cycle.{saves_pc};
+ghost use Rattle.microprogram.specs.Cycle.{dt_after, ir_after, saves_pc};
 ghost use Rattle.microprogram.specs.Cycle.{state_after, unless_flagged, word_brought};
 
 use super::chip::Chip;
@@ -77,6 +77,20 @@ fn write(registers: &mut Registers, destination: Destination, res: u32)
             registers.sr = sr_on_entry(registers.sr);
         }
         Destination::Rfe => registers.sr = sr_on_return(registers.sr),
+    }
+}
+
+/// Puts the word that a finished access brings into IR or DT.
+fn load(registers: &mut Registers, transfer: Transfer, answer: Option<Answer>)
+    ensures regs { regs_of registers.new
+        ≡ with_ir (ir_after transfer answer registers.old.ir) (regs_of registers.old) }
+    ensures dt { registers.new.dt ≡ dt_after transfer answer registers.old.dt }
+    ensures flag { registers.new.flag ≡ registers.old.flag }
+{
+    match transfer {
+        Transfer::If => registers.ir = word_brought(answer, registers.ir),
+        Transfer::Lw => registers.dt = word_brought(answer, registers.dt),
+        Transfer::Nop | Transfer::Ww | Transfer::Wh | Transfer::Wb => {}
     }
 }
 
@@ -166,11 +180,7 @@ impl Chip {
         if check.may_write(row.destination) {
             write(&mut self.registers, row.destination, res);
         }
-        match row.transfer {
-            Transfer::If => self.registers.ir = word_brought(answer, self.registers.ir),
-            Transfer::Lw => self.registers.dt = word_brought(answer, self.registers.dt),
-            Transfer::Nop | Transfer::Ww | Transfer::Wh | Transfer::Wb => {}
-        }
+        load(&mut self.registers, row.transfer, answer);
         self.registers.flag = flag;
         if sequencing::ends_path(row.sequencing) {
             self.sampled = lines;

@@ -1,5 +1,7 @@
 -- The text of what the program prints. Assumes nothing.
 use Rattle.std.specs.Prelude.{ℕ, ◌-◌, true, cond, List, [], ◌∷◌, ◌++◌, codes, length, replicate, Ok, Err, Result, ◌==◌}
+use Rattle.std.specs.Prelude.{Some, None, Option}
+use Rattle.std.specs.Option.{unwrap_or}
 use Rattle.std.specs.Fmt.{decimal, digits}
 use Rattle.bus.specs.declared.settle.BusFault.{BusFault}
 use Rattle.r3000.specs.Denial.{denial_number}
@@ -77,10 +79,10 @@ call_reply_text (Err denial) = text_of_pieces (codes "denied " ∷ decimal (deni
 abbrev pub answered_call_text : AnsweredCall → List ℕ
 answered_call_text m = text_of_pieces (call_text m.call ∷ codes ": " ∷ call_reply_text m.reply ∷ [])
 
--- what a table has under a number, or else another text
-abbrev pub table_text : ℕ → List (ℕ × List ℕ) → List ℕ → List ℕ
-table_text n [] other = other
-table_text n (entry ∷ entries) other = cond (n == entry.0) entry.1 (table_text n entries other)
+-- what a table has under a number
+abbrev pub table_entry : ℕ → List (ℕ × List ℕ) → Option (List ℕ)
+table_entry n [] = None
+table_entry n (entry ∷ entries) = cond (n == entry.0) (Some entry.1) (table_entry n entries)
 
 -- the names of the registers that are not general ones
 abbrev pub special_register_names : List (ℕ × List ℕ)
@@ -97,9 +99,13 @@ special_register_names =
     ∷ (41, codes "DT")
     ∷ []
 
+-- the name of a register that is not a general one
+abbrev pub special_name : ℕ → Option (List ℕ)
+special_name n = table_entry n special_register_names
+
 -- a register's name: a general one is called by its number
 abbrev pub register_name : ℕ → List ℕ
-register_name n = table_text n special_register_names (text_of_pieces (codes "$" ∷ decimal n ∷ []))
+register_name n = unwrap_or (special_name n) (text_of_pieces (codes "$" ∷ decimal n ∷ []))
 
 -- a register that a call changed, and its new word
 abbrev pub change_text : Change → List ℕ

@@ -72,6 +72,6 @@ pub(crate) fn exchanges(heap: Global) -> Result<Vec<Exchange>, AllocError> {
     let mut exchanges = vec![in heap; Exchange::new(Snapshot)]?;
     let script = SCRIPT.into_iter().flat_map(|call| [call, Snapshot]);
     exchanges.extend(script.map(Exchange::new))?;
-    exchanges.extend((0..CODES as u8).map(Ledger).map(Exchange::new))?;
+    exchanges.extend((0..CODES as u8).map(|code| Exchange::new(Ledger(code))))?;
     Ok(exchanges)
 }

@@ -1,6 +1,8 @@
 //! The program's output.
 
-ghost use Rattle.std.specs.Prelude.{Some};
+ghost use Rattle.std.specs.Prelude.{◌≡◌, Some};
+ghost use Rattle.std.specs.Option.{option_map};
+ghost use Rattle.runcore.specs.Transcript.{special_name};
 
 use anyhow::Context;
 use bus::settle::Settled;
@@ -151,6 +153,25 @@ impl fmt::Display for AnsweredCall {
     }
 }
 
+/// The name of a register that is not a general one.
+fn special_name(number: usize) -> Option<&'static str>
+    ensures { option_map (λ name. name.now) result ≡ special_name number }
+{
+    match number {
+        32 => Some("PC"),
+        33 => Some("HI"),
+        34 => Some("LO"),
+        35 => Some("SR"),
+        36 => Some("CR"),
+        37 => Some("EPC"),
+        38 => Some("BAR"),
+        39 => Some("AD"),
+        40 => Some("IR"),
+        41 => Some("DT"),
+        _ => None,
+    }
+}
+
 /// A register's name; a general one is called by its number.
 #[derive(Clone, Copy)]
 struct RegisterName(usize);
@@ -161,18 +182,9 @@ impl fmt::Display for RegisterName {
     ghost output = { λ n. Some (register_name n.0) };
 
     fn fmt<W: fmt::Write>(&self, f: &mut fmt::Formatter<W>) -> fmt::Result {
-        match self.0 {
-            32 => f.write_str("PC"),
-            33 => f.write_str("HI"),
-            34 => f.write_str("LO"),
-            35 => f.write_str("SR"),
-            36 => f.write_str("CR"),
-            37 => f.write_str("EPC"),
-            38 => f.write_str("BAR"),
-            39 => f.write_str("AD"),
-            40 => f.write_str("IR"),
-            41 => f.write_str("DT"),
-            general => write!(f, "${general}"),
+        match special_name(self.0) {
+            Some(name) => f.write_str(name),
+            None => write!(f, "${}", self.0),
         }
     }
 }

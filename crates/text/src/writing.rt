@@ -73,13 +73,9 @@ fn fields_of_denial(denied: Denied) -> [Field; 3]
     ]
 }
 
-/// The bytes of a reply, the one that ends it among them; reading them gives the reply back.
-#[tactic(auto, using(crate::proofs::Back::round_trip))]
-pub fn reply_text(reply: Reply) -> Text
-    ensures bytes { result.items ≡ reply_text reply }
-    ensures fits { length result.items ≤ longest_reply }
-    ensures limit { LONGEST_REPLY ≡ longest_reply }
-    ensures back { RoundTrip }
+/// The line that is a reply.
+fn line_of_reply(reply: Reply) -> Text
+    ensures { result.items ≡ reply_text reply }
 {
     match reply {
         Reply::Loaded => line_of(Kind::Load as u64, &[]),
@@ -93,4 +89,15 @@ pub fn reply_text(reply: Reply) -> Text
         }
         Reply::Denied(denied) => line_of(DENIAL_CODE, &fields_of_denial(denied)),
     }
+}
+
+/// The bytes of a reply, the one that ends it among them; reading them gives the reply back.
+#[tactic(auto, using(crate::proofs::Back::round_trip))]
+pub fn reply_text(reply: Reply) -> Text
+    ensures bytes { result.items ≡ reply_text reply }
+    ensures fits { length result.items ≤ longest_reply }
+    ensures limit { LONGEST_REPLY ≡ longest_reply }
+    ensures back { RoundTrip }
+{
+    line_of_reply(reply)
 }
