@@ -1,8 +1,8 @@
 -- Cases are counted one more at a time. Assumes nothing.
 use Rattle.std.proofs.Common.{List, [], ◌∷◌, ◌++◌, refl, subst}
-use Rattle.cases.specs.Report.{CountsCase, CountsCases}
+use Rattle.cases.specs.Tally.{CountsCase, CountsCases}
 use Rattle.cases.specs.declared.case.Case.{Case}
-use Rattle.cases.specs.declared.report.Tally.{Tally}
+use Rattle.cases.specs.declared.tally.Tally.{Tally}
 
 pub counts_more : (t s u : Tally) (cs : List Case) (c : Case)
     → CountsCases t cs s → CountsCase s c u → CountsCases t (cs ++ c ∷ []) u

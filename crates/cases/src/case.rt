@@ -1,11 +1,13 @@
 //! A case.
 
-ghost use Rattle.std.specs.Prelude.{◌≡◌, IsTrue, ◌↔◌, []};
+ghost use Rattle.std.specs.Prelude.{◌≡◌, ◌+◌, ◌<◌, ◌++◌, ◌∷◌, ◌⊎◌, ◌↔◌, [], length, vec_capacity, vec_len, IsOk, IsTrue, OnErr, OnOk};
 ghost use Rattle.replies.specs.Replies.{answer_text};
+ghost use Rattle.text.specs.Form.{line_end};
 
 use pile::pile::Memories;
 use replies::Replies;
-use std::alloc::Global;
+use std::alloc::{AllocError, Global};
+use text::form::LINE_END;
 use text::writing::reply_text;
 
 /// A job, and its replies as the rules give them.
@@ -33,6 +35,18 @@ impl<'a> Case<'a> {
             replies: String::new(heap),
         }
     }
+}
+
+/// Appends a line and its end to a job; where memory runs out, nothing or the line without its end.
+pub fn end_line(job: &mut Vec<u8>, line: &str) -> Result<(), AllocError>
+    ensures ok { OnOk result (job.new.items ≡ job.old.items ++ line.now ++ line_end ∷ []) }
+    ensures err { OnErr result
+        ((job.new.items ≡ job.old.items) ⊎ (job.new.items ≡ job.old.items ++ line.now)) }
+    ensures succeeds { vec_len job.old + length line.now < vec_capacity job.old → IsOk result }
+{
+    job.extend_from_slice(line.as_bytes())?;
+    job.push(LINE_END)?;
+    Ok(())
 }
 
 /// Whether a job is answered by these replies.

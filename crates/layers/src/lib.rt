@@ -4,6 +4,4 @@
 
 pub mod delay;
 pub mod split;
-#[cfg(test)]
-mod tests;
 pub mod window;

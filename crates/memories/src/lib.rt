@@ -8,5 +8,3 @@ pub mod ram;
 mod region;
 pub mod rom;
 pub mod scratch;
-#[cfg(test)]
-mod tests;

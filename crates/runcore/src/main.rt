@@ -3,20 +3,23 @@
 
 #![tactic(auto)]
 
-mod firmware;
 mod script;
-#[cfg(test)]
-mod tests;
 mod transcript;
 
 use anyhow::Context;
 use bus::memory::Bus;
 use bus::request::{Request, Width};
 use bus::settle::settle;
-use firmware::Section;
+use firmware::{HANDLER, RESET, Section};
 use pile::pile::Memories;
 use r3000::perform::perform;
 use transcript::Load;
+
+/// A word just behind the lower memory, where the pile takes none.
+const BEYOND: Section<'static> = Section {
+    base: 0x8000_4000,
+    words: &[0x0000_0000],
+};
 
 /// Writes the words of a section into the pile, waiting out each.
 fn load<B: Bus>(rt: &impl Print, pile: &mut B, section: Section<'_>) -> anyhow::Result<()> {
@@ -36,9 +39,9 @@ fn load<B: Bus>(rt: &impl Print, pile: &mut B, section: Section<'_>) -> anyhow::
 fn run(rt: &(impl Print + AllocGlobal)) -> anyhow::Result<()> {
     let mut memories = Memories::zeroed();
     let mut pile = memories.pile();
-    load(rt, &mut pile, firmware::RESET)?;
-    load(rt, &mut pile, firmware::HANDLER)?;
-    load(rt, &mut pile, firmware::BEYOND)?;
+    load(rt, &mut pile, RESET)?;
+    load(rt, &mut pile, HANDLER)?;
+    load(rt, &mut pile, BEYOND)?;
     let mut exchanges = script::exchanges(rt.alloc()).context("no room for the calls")?;
     perform(pile, &mut exchanges);
     transcript::print_calls(rt, &exchanges)

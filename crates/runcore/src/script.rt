@@ -6,7 +6,7 @@ use r3000::call::{Call, Exchange};
 use std::alloc::{AllocError, Global};
 
 /// The firmware from reset to its end, with interrupts and a reset on its way; its results; and calls that are denied.
-const SCRIPT: [Call; 52] = [
+const SCRIPT: &[Call] = &[
     Clock,
     Clock,
     Clock,
@@ -70,7 +70,7 @@ const SCRIPT: [Call; 52] = [
 /// The script with a snapshot before it and after each of its calls, and the whole ledger at the end.
 pub(crate) fn exchanges(heap: Global) -> Result<Vec<Exchange>, AllocError> {
     let mut exchanges = vec![in heap; Exchange::new(Snapshot)]?;
-    let script = SCRIPT.into_iter().flat_map(|call| [call, Snapshot]);
+    let script = SCRIPT.iter().flat_map(|call| [*call, Snapshot]);
     exchanges.extend(script.map(Exchange::new))?;
     exchanges.extend((0..CODES as u8).map(|code| Exchange::new(Ledger(code))))?;
     Ok(exchanges)

@@ -1,8 +1,8 @@
 //! What no file of cases says.
 
-use super::case::holds;
 use super::reading::read;
-use super::report::{Tally, tally_of, verdict};
+use cases::case::holds;
+use cases::tally::tally_of;
 use jobs::whole::last_reply;
 use pile::pile::Memories;
 use replies::example::{Example, worked_example};
@@ -31,20 +31,14 @@ case second
 #[test]
 fn a_file_of_cases(rt: HostRuntime) -> Result<(), Fail> {
     let cases = read(rt.alloc(), FILE)?;
-    assert_eq!(rt; cases.len(), 2);
+    assert!(rt; cases.len() == 2);
     let (first, second) = (&cases[0], &cases[1]);
-    assert_eq!(rt;
-        first.job.as_slice(),
-        b"20\n40 0001\n\n2 \n2 \n50 00".as_slice()
-    );
-    assert_eq!(rt;
-        second.replies.as_str(),
-        "FF 05 00000001 00000000\n20\n20\n"
-    );
-    assert_eq!(rt; (first.name, first.line), ("first", 3));
-    assert_eq!(rt; (second.name, second.line), ("second", 12));
+    assert!(rt; first.job.as_slice() == b"20\n40 0001\n\n2 \n2 \n50 00".as_slice());
+    assert!(rt; second.replies.as_str() == "FF 05 00000001 00000000\n20\n20\n");
+    assert!(rt; first.name == "first" && first.line == 3);
+    assert!(rt; second.name == "second" && second.line == 12);
     let tally = tally_of(&cases);
-    assert_eq!(rt; (tally.cases, tally.differ), (2, 1));
+    assert!(rt; tally.cases == 2 && tally.differ == 1);
     Ok(())
 }
 

@@ -12,7 +12,7 @@ use std::test::Fail;
 
 /// Addresses and words: a loop that counts, multiplies, stores and loads; and a handler that counts interrupts. A line
 /// is up at one boundary alone, so no second interrupt can come between RFE and JR.
-const FIRMWARE: [(u32, u32); 18] = [
+const FIRMWARE: &[(u32, u32)] = &[
     (0xBFC0_0000, 0x3C02_8000), // lui   $2, 8000
     (0xBFC0_0004, 0x3401_0401), // ori   $1, $0, 0401
     (0xBFC0_0008, 0x4081_6000), // mtc0  $1, SR
@@ -42,7 +42,7 @@ fn snapshots<B: Bus + Drop>(
     mut pile: B,
 ) -> Result<Vec<[u32; REGISTERS]>, AllocError> {
     for (address, word) in FIRMWARE {
-        let _ = settle(&mut pile, Request::write(Width::Word, address, word));
+        let _ = settle(&mut pile, Request::write(Width::Word, *address, *word));
     }
     let mut core = Core::new(pile);
     let mut all = Vec::new(heap);

@@ -1,12 +1,8 @@
 //! Reading a file of cases. `data/README.md` says what its lines are.
 
-ghost use Rattle.std.specs.Prelude.{◌≡◌, ◌+◌, ◌<◌, ◌++◌, ◌∷◌, ◌⊎◌, [], length, vec_capacity, vec_len, IsOk, OnErr, OnOk};
-ghost use Rattle.text.specs.Form.{line_end};
-
-use super::case::Case;
 use anyhow::{Context, Result, ensure};
+use cases::case::{Case, end_line};
 use std::alloc::{AllocError, Global};
-use text::form::LINE_END;
 
 /// The cases of a file.
 pub(crate) fn read(heap: Global, text: &str) -> Result<Vec<Case<'_>>> {
@@ -96,18 +92,6 @@ fn add_reply(case: &mut Case<'_>, reply: Option<&str>) -> Result<()> {
     if let Some(reply) = reply {
         end_reply(&mut case.replies, reply)?;
     }
-    Ok(())
-}
-
-/// Appends a line and its end.
-fn end_line(job: &mut Vec<u8>, line: &str) -> Result<(), AllocError>
-    ensures ok { OnOk result (job.new.items ≡ job.old.items ++ line.now ++ line_end ∷ []) }
-    ensures err { OnErr result
-        ((job.new.items ≡ job.old.items) ⊎ (job.new.items ≡ job.old.items ++ line.now)) }
-    ensures succeeds { vec_len job.old + length line.now < vec_capacity job.old → IsOk result }
-{
-    job.extend_from_slice(line.as_bytes())?;
-    job.push(LINE_END)?;
     Ok(())
 }
 

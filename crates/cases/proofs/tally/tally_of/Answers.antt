@@ -1,8 +1,8 @@
 use Rattle.std.proofs.Common.{rules, ◌≡◌, ◌+◌, ◌++◌, ◌∷◌, [], take, sym, subst, ap, ◌∙◌}
 use Rattle.std.proofs.lemmas.List.{take_all, take_more}
-use Rattle.cases.specs.Report.{CountsCase, CountsCases, no_cases}
+use Rattle.cases.specs.Tally.{CountsCase, CountsCases, no_cases}
 use Rattle.cases.proofs.Counting.{counts_more}
-use Rattle.cases.proofs.report.tally_of.Goals as goal
+use Rattle.cases.proofs.tally.tally_of.Goals as goal
 
 pub loop-case-init : goal.loop-case-init
 loop-case-init c = search rules

@@ -1,12 +1,12 @@
-//! Examples at the edges of every range.
+//! Memories at the edges of their ranges.
 
-use super::borrowed::replace_word;
-use super::placement::{PlacementFault, check_placement};
-use super::ram::Ram;
-use super::rom::Rom;
-use super::scratch::Scratch;
 use bus::memory::Bus;
 use bus::request::{Answer, Request, Width};
+use memories::borrowed::replace_word;
+use memories::placement::{PlacementFault, check_placement};
+use memories::ram::Ram;
+use memories::rom::Rom;
+use memories::scratch::Scratch;
 
 #[test]
 fn both_denials(rt: HostRuntime) {

@@ -4,22 +4,21 @@
 
 #[cfg(test)]
 mod boundaries;
-mod case;
 mod reading;
-mod report;
+mod table;
 #[cfg(test)]
 mod tests;
 
 use anyhow::Result;
-use report::Tally;
+use cases::tally::{Tally, verdict};
 use std::env;
 
 fn main(rt: HostRuntime) -> Result<()> {
-    report::head(&rt)?;
+    table::head(&rt)?;
     let mut all = Tally::default();
     for file in env::args(&rt)?.skip(1) {
-        all = all.with(report::run(&rt, file.as_str())?);
+        all = all.with(table::run(&rt, file.as_str())?);
     }
-    report::row(&rt, "all", all)?;
-    report::verdict(all)
+    table::row(&rt, "all", all)?;
+    verdict(all)
 }

@@ -1,7 +1,7 @@
 -- What comes of cases one after another. Assumes nothing.
 use Rattle.std.specs.Prelude.{◌≡◌, ◌↔◌, ◌+◌, ◌-◌, ◌^◌, min, Bool, cond, IsTrue, List, [], ◌∷◌}
 use Rattle.cases.specs.declared.case.Case.{Case}
-use Rattle.cases.specs.declared.report.Tally.{Tally}
+use Rattle.cases.specs.declared.tally.Tally.{Tally}
 use Rattle.replies.specs.Replies.{answer_text}
 
 abbrev pub no_cases : Tally

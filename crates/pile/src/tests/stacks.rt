@@ -1,11 +1,11 @@
-//! Examples of layers over memories.
+//! Layers over memories.
 
-use super::delay::Delay;
-use super::split::Split;
-use super::window::Window;
 use bus::memory::Bus;
 use bus::request::{Answer, Request, Width};
 use bus::settle::{BusFault, Settled, settle};
+use layers::delay::Delay;
+use layers::split::Split;
+use layers::window::Window;
 use memories::ram::Ram;
 use memories::scratch::Scratch;
 

@@ -1,6 +1,6 @@
 //! The firmware's results are right at whatever cycle an interrupt or a reset comes in.
 
-use super::firmware::{HANDLER, RESET, Section};
+use super::{HANDLER, RESET, Section};
 use bus::memory::Bus;
 use bus::request::{Request, Width};
 use bus::settle::settle;
