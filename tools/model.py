@@ -1,10 +1,10 @@
 #!/usr/bin/env python3
 """The replies that the rules of docs/ give to jobs, by a model of its own (tools/model/).
 
-tools/model.py <JOB                                        prints the replies to a job
-tools/model.py --cases crates/cases/data/*.txt             compares each case's replies with the model's
-tools/model.py --cases --rewrite crates/cases/data/*.txt   writes the model's replies into the files
-tools/model.py --cover crates/cases/data/*.txt             prints how much the cases cover
+tools/model.py <JOB                                           prints the replies to a job
+tools/model.py --cases crates/runcases/data/*.txt             compares each case's replies with the model's
+tools/model.py --cases --rewrite crates/runcases/data/*.txt   writes the model's replies into the files
+tools/model.py --cover crates/runcases/data/*.txt             prints how much the cases cover
 
 Processor and instruction book run beside one another, and are compared at every boundary.
 The status is not zero where a case differs.

@@ -1,4 +1,4 @@
-"""The files of cases in crates/cases/data; crates/cases/data/README.md says what their lines are."""
+"""The files of cases in crates/runcases/data; crates/runcases/data/README.md says what their lines are."""
 
 import re
 
