@@ -1,6 +1,7 @@
 //! A case.
 
-ghost use Rattle.std.specs.Prelude.{◌≡◌, ◌+◌, ◌<◌, ◌++◌, ◌∷◌, ◌⊎◌, ◌↔◌, [], length, vec_capacity, vec_len, IsOk, IsTrue, OnErr, OnOk};
+ghost use Rattle.std.specs.Prelude.{◌≡◌, ◌+◌, ◌<◌, ◌++◌, ◌∷◌, ◌⊎◌, ◌↔◌, [], length, vec_capacity, vec_len};
+ghost use Rattle.std.specs.Prelude.{IsOk, IsTrue, OnErr, OnOk};
 ghost use Rattle.replies.specs.Replies.{answer_text};
 ghost use Rattle.text.specs.Form.{line_end};
 

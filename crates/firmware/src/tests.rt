@@ -18,7 +18,8 @@ const SERVED: u32 = 160;
 /// The eight bytes in order, and (1 × 01 + 2 × 07 + 3 × 13 + … + 8 × FE) modulo 251.
 const RESULTS: [u8; 9] = [0x01, 0x07, 0x13, 0x2A, 0x3B, 0x5C, 0x88, 0xFE, 0x37];
 
-fn put<B: Bus>(pile: &mut B, section: Section<'_>) {
+/// Writes the words of a section into the pile.
+pub(super) fn put<B: Bus>(pile: &mut B, section: Section<'_>) {
     for (address, word) in (section.base..).step_by(4).zip(section.words) {
         let _ = settle(pile, Request::write(Width::Word, address, *word));
     }

@@ -2,16 +2,30 @@
 
 #![tactic(auto)]
 
-#[cfg(test)]
-mod boundaries;
+ghost use Rattle.std.specs.Prelude.{◌≡◌, ◌<◌, ◌⊎◌, OnErr, OnOk};
+
 mod reading;
 mod table;
 #[cfg(test)]
 mod tests;
 
-use anyhow::Result;
-use cases::tally::{Tally, verdict};
+use anyhow::{Result, ensure};
+use cases::tally::Tally;
 use std::env;
+
+/// The end of the program: good where there are cases and none differs.
+fn verdict(all: Tally) -> Result<()>
+    ensures good { OnOk result ((0 < all.cases) × (all.differ ≡ 0)) }
+    ensures bad { OnErr result ((all.cases ≡ 0) ⊎ (0 < all.differ)) }
+{
+    let Tally { cases, differ } = all;
+    ensure!(
+        cases > 0,
+        "no cases: name files of cases (their form: data/README.md)"
+    );
+    ensure!(differ == 0, "{differ} of {cases} cases differ");
+    Ok(())
+}
 
 fn main(rt: HostRuntime) -> Result<()> {
     table::head(&rt)?;

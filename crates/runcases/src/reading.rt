@@ -77,10 +77,7 @@ fn repetitions(number: &str) -> Result<u32> {
 
 /// What stands in front of a reply, and the reply, without the comment behind both.
 fn split_reply(line: &str) -> (&str, Option<&str>) {
-    let line = match line.split_once(';') {
-        Some((front, _)) => front,
-        None => line,
-    };
+    let line = line.split_once(';').map_or(line, |(front, _)| front);
     match line.split_once('<') {
         Some((front, reply)) => (front.trim(), Some(reply.trim())),
         None => (line.trim(), None),

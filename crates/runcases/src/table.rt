@@ -10,7 +10,7 @@ use std::rt::Files;
 use std::{fs, io, str};
 use text::writing::reply_text;
 
-/// The head of the table.
+/// The head of the table; its columns are as wide as those of a row.
 pub(crate) fn head(rt: &impl Print) -> io::Result<()> {
     println!(rt; "file                       cases differ")
 }
@@ -34,8 +34,8 @@ pub(crate) fn run<R: Files + Print + AllocGlobal>(rt: &R, file: &str) -> Result<
 }
 
 /// Tells the cases that differ.
-fn tell_all(rt: &impl Print, file: &str, cases: &Vec<Case<'_>>) -> io::Result<()> {
-    for case in cases.iter() {
+fn tell_all(rt: &impl Print, file: &str, cases: &[Case<'_>]) -> io::Result<()> {
+    for case in cases {
         if !holds(case.job.as_slice(), case.replies.as_bytes()) {
             println!(rt; "{file}, line {}: case {} differs", case.line, case.name)?;
             tell(rt, case)?;

@@ -1,5 +1,5 @@
-//! Runs firmware that ends on a core while interrupts come in, and prints every call, with what it answered and what
-//! it changed.
+//! Runs the firmware of the crate `firmware` on a core while interrupts come in, and prints every call, with what it
+//! answered and what it changed.
 
 #![tactic(auto)]
 

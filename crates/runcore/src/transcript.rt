@@ -153,7 +153,7 @@ impl fmt::Display for AnsweredCall {
     }
 }
 
-/// The name of a register that is not a general one.
+/// The name of a register that is not a general one; none for any other number.
 fn special_name(number: usize) -> Option<&'static str>
     ensures { option_map (λ name. name.now) result ≡ special_name number }
 {

@@ -73,7 +73,8 @@ fn fields_of_denial(denied: Denied) -> [Field; 3]
     ]
 }
 
-/// The line that is a reply.
+/// The bytes of a reply, by its kind. They stand apart from `reply_text`, so that reading back is proved once and not
+/// in each arm.
 fn line_of_reply(reply: Reply) -> Text
     ensures { result.items ≡ reply_text reply }
 {

@@ -9,7 +9,7 @@ loop-case-init c = search rules
 
 pub loop-case-preserved : goal.loop-case-preserved
 loop-case-preserved c =
-    let xs = c.deref-case-items.result.now in
+    let xs = c.args.cases.now in
     let i = c.loop-case.case-index in
     let item = c.case-item.result in
     let counted : CountsCase c.loop-case.tally item c.with-tally.result = record {
@@ -26,6 +26,5 @@ loop-case-preserved c =
 pub returns : goal.returns
 returns c =
     subst (λ ys. CountsCases no_cases ys c.loop-case.tally)
-    (take_all c.loop-case.case-index c.deref-case-items.result.now c.loop-case-test.false
-    ∙ c.deref-case-items.ensures.value)
+    (take_all c.loop-case.case-index c.args.cases.now c.loop-case-test.false)
     c.loop-case.invariant
