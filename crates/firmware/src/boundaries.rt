@@ -16,11 +16,15 @@ const DT: usize = REGISTERS - 1;
 /// The sum of the bytes, each times its place, which the firmware leaves in register 4.
 const SUM: u32 = 4_071;
 
-/// The snapshots at the boundaries of 30,000 cycles, DT set aside. IT0 is up before every 16th boundary.
+/// Where the handler counts.
+const INTERRUPTS: u32 = 0x8000_0110;
+
+/// The snapshots at the boundaries of 30,000 cycles, DT set aside, and how many interrupts the handler counted. IT0 is
+/// up before every 16th boundary.
 fn snapshots<B: Bus + Drop>(
     heap: Global,
     mut pile: B,
-) -> Result<Vec<[u32; REGISTERS]>, AllocError> {
+) -> Result<(Vec<[u32; REGISTERS]>, u8), AllocError> {
     put(&mut pile, RESET);
     put(&mut pile, HANDLER);
     let mut core = Core::new(pile);
@@ -38,19 +42,21 @@ fn snapshots<B: Bus + Drop>(
             let _ = core.lines(u8::from(seen % 16 == 15));
         }
     }
-    Ok(all)
+    let interrupts = core.look(INTERRUPTS).unwrap_or(0);
+    Ok((all, interrupts))
 }
 
 #[test]
 fn boundaries_over_two_piles(rt: HostRuntime) -> Result<(), Fail> {
     let (mut first, mut second) = (Memories::zeroed(), Memories::zeroed());
-    let quick = snapshots(rt.alloc(), first.pile())?;
-    let slow = snapshots(rt.alloc(), Delay::new(7, second.pile()))?;
+    let (quick, _) = snapshots(rt.alloc(), first.pile())?;
+    let (slow, interrupts) = snapshots(rt.alloc(), Delay::new(7, second.pile()))?;
     assert!(rt; slow.len() > 300);
     assert!(rt; slow.len() < quick.len());
     for (number, (one, other)) in quick.iter().zip(&slow).enumerate() {
         assert!(rt; one == other, "boundary {number}");
     }
     assert!(rt; slow[slow.len() - 1][4] == SUM);
+    assert!(rt; interrupts > 10);
     Ok(())
 }

@@ -2,7 +2,7 @@
 
 #![tactic(auto)]
 
-ghost use Rattle.std.specs.Prelude.{◌≡◌, ◌<◌, ◌⊎◌, OnErr, OnOk};
+ghost use Rattle.std.specs.Prelude.{◌≡◌, ◌<◌, ◌↔◌, IsOk};
 
 mod reading;
 mod table;
@@ -15,8 +15,7 @@ use std::env;
 
 /// The end of the program: good where there are cases and none differs.
 fn verdict(all: Tally) -> Result<()>
-    ensures good { OnOk result ((0 < all.cases) × (all.differ ≡ 0)) }
-    ensures bad { OnErr result ((all.cases ≡ 0) ⊎ (0 < all.differ)) }
+    ensures { IsOk result ↔ ((0 < all.cases) × (all.differ ≡ 0)) }
 {
     let Tally { cases, differ } = all;
     ensure!(
