@@ -1,7 +1,7 @@
 //! A case.
 
-ghost use Rattle.std.specs.Prelude.{◌≡◌, ◌+◌, ◌<◌, ◌++◌, ◌∷◌, ◌⊎◌, ◌↔◌, [], length, vec_capacity, vec_len};
-ghost use Rattle.std.specs.Prelude.{IsOk, IsTrue, OnErr, OnOk};
+ghost use Rattle.std.specs.Prelude.{◌≡◌, ◌+◌, ◌≤◌, ◌++◌, ◌∷◌, ◌⊎◌, ◌↔◌, [], length, vec_capacity, vec_len};
+ghost use Rattle.std.specs.Prelude.{IsTrue, OnErr, OnOk};
 ghost use Rattle.replies.specs.Replies.{answer_text};
 ghost use Rattle.text.specs.Form.{line_end};
 
@@ -38,12 +38,13 @@ impl<'a> Case<'a> {
     }
 }
 
-/// Appends a line and its end to a job; where memory runs out, nothing or the line without its end.
+/// Appends a line and its end to a job. It fails only where the job has too little room and gets no more; then nothing
+/// was appended, or the line without its end.
 pub fn end_line(job: &mut Vec<u8>, line: &str) -> Result<(), AllocError>
     ensures ok { OnOk result (job.new.items ≡ job.old.items ++ line.now ++ line_end ∷ []) }
+    ensures room { OnErr result (vec_capacity job.old ≤ vec_len job.old + length line.now) }
     ensures err { OnErr result
         ((job.new.items ≡ job.old.items) ⊎ (job.new.items ≡ job.old.items ++ line.now)) }
-    ensures succeeds { vec_len job.old + length line.now < vec_capacity job.old → IsOk result }
 {
     job.extend_from_slice(line.as_bytes())?;
     job.push(LINE_END)?;
