@@ -4,6 +4,7 @@ ghost use Rattle.std.specs.Prelude.{◌≡◌};
 ghost use Rattle.bus.specs.Request.{access_of, action_kind, read_of, same_access, word_of, write_of};
 
 /// The name of the word that an address lies in: the address with its two low bits cleared.
+#[inline(always)]
 pub fn word_of(address: u32) -> u32
     ensures { result ≡ word_of address }
 {
@@ -34,6 +35,7 @@ pub enum Action {
 
 impl Action {
     /// The kind of the request, which leaves the data out.
+    #[inline(always)]
     pub fn kind(self) -> Kind
         ensures { result ≡ action_kind self }
     {
@@ -59,6 +61,7 @@ pub struct Access {
 
 impl Access {
     /// Whether kind and address agree.
+    #[inline(always)]
     pub fn same(self, other: Access) -> bool
         ensures { result ≡ same_access self other }
     {
@@ -68,6 +71,7 @@ impl Access {
 
 impl Request {
     /// Asks for the word of an address.
+    #[inline(always)]
     pub fn read(address: u32) -> Request
         ensures { result ≡ read_of address }
     {
@@ -78,6 +82,7 @@ impl Request {
     }
 
     /// Asks to write the low bits of the data.
+    #[inline(always)]
     pub fn write(width: Width, address: u32, data: u32) -> Request
         ensures { result ≡ write_of width address «data» }
     {
@@ -87,6 +92,7 @@ impl Request {
         }
     }
 
+    #[inline(always)]
     pub fn access(self) -> Access
         ensures { result ≡ access_of self }
     {

@@ -36,6 +36,7 @@ impl<B: Bus> Delay<B> {
     }
 
     /// `n`, lowered where the longest wait would pass `MAX_WAIT`.
+    #[inline(always)]
     fn own_waits(&self) -> u8
         ensures { result ≡ own_waits self.now.n (B.Bus.means self.now.below).longest }
     {
@@ -43,6 +44,7 @@ impl<B: Bus> Delay<B> {
     }
 
     /// Asks the memory below: its wait keeps the delay counting at 0, done and bus error make it idle.
+    #[inline(always)]
     fn ask(&mut self, q: Request) -> Answer
         ensures n { self.new.n ≡ self.old.n }
         ensures below { B.Bus.steps self.old.below q result self.new.below }
@@ -65,6 +67,7 @@ impl<B: Bus> Bus for Delay<B> {
 
     ghost steps = { DelaySteps B.Bus.means B.Bus.steps };
 
+    #[inline(always)]
     fn request(&mut self, q: Request) -> Answer {
         let n = self.own_waits();
         match (&mut self.state, q.access()) {
@@ -88,6 +91,7 @@ impl<B: Bus> Bus for Delay<B> {
         self.below.look(address)
     }
 
+    #[inline(always)]
     fn longest_wait(&self) -> u16 {
         self.below.longest_wait() + u16::from(self.own_waits())
     }

@@ -29,6 +29,7 @@ impl<A: Bus, B: Bus> Split<A, B> {
 
 impl<A, B> Split<A, B> {
     /// Whether an address is the first memory's.
+    #[inline(always)]
     fn is_first(&self, address: u32) -> bool
         ensures { result ≡ nat_lt address (word_of self.now.mark) }
     {
@@ -41,6 +42,7 @@ impl<A: Bus, B: Bus> Bus for Split<A, B> {
 
     ghost steps = { SplitSteps A.Bus.steps B.Bus.steps };
 
+    #[inline(always)]
     fn request(&mut self, q: Request) -> Answer {
         if self.is_first(q.address) {
             self.first.request(q)
@@ -57,6 +59,7 @@ impl<A: Bus, B: Bus> Bus for Split<A, B> {
         }
     }
 
+    #[inline(always)]
     fn longest_wait(&self) -> u16 {
         self.first.longest_wait().max(self.second.longest_wait())
     }

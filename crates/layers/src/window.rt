@@ -24,6 +24,7 @@ impl<B: Bus> Window<B> {
 
 impl<B> Window<B> {
     /// The address below that an address of the window stands for; none from the limit up.
+    #[inline(always)]
     fn checked_address_below(&self, address: u32) -> Option<u32>
         ensures { result
             ≡ (if nat_lt address (limit_address self.now.limit) then Some (address_below self.now.base address) else
@@ -39,6 +40,7 @@ impl<B: Bus> Bus for Window<B> {
 
     ghost steps = { WindowSteps B.Bus.steps };
 
+    #[inline(always)]
     fn request(&mut self, q: Request) -> Answer {
         match self.checked_address_below(q.address) {
             Some(address) => self.below.request(Request { address, ..q }),
@@ -50,6 +52,7 @@ impl<B: Bus> Bus for Window<B> {
         self.below.look(self.checked_address_below(address)?)
     }
 
+    #[inline(always)]
     fn longest_wait(&self) -> u16 {
         self.below.longest_wait()
     }

@@ -7,6 +7,7 @@ use super::bits::{SR_USER, SYSTEM_ADDRESS};
 
 /// SR bit 1.
 #[tactic(auto, using(crate::proofs::Masks::bit_1))]
+#[inline(always)]
 pub fn is_user_mode(sr: u32) -> bool
     ensures { result ≡ is_user_mode sr }
 {
@@ -14,6 +15,7 @@ pub fn is_user_mode(sr: u32) -> bool
 }
 
 /// User mode may not use an address with bit 31.
+#[inline(always)]
 pub fn is_barred(sr: u32, address: u32) -> bool
     ensures { result ≡ is_barred sr address }
 {
@@ -21,6 +23,7 @@ pub fn is_barred(sr: u32, address: u32) -> bool
 }
 
 /// An address that is no multiple of the size, or that is barred.
+#[inline(always)]
 pub fn is_misplaced(size: u32, sr: u32, address: u32) -> bool
     ensures { result ≡ is_misplaced size sr address }
 {

@@ -25,6 +25,7 @@ pub enum Fault {
 
 impl Fault {
     /// The code of the fault.
+    #[inline(always)]
     pub fn code(self) -> u32
         ensures { result ≡ fault_code self }
     {

@@ -13,6 +13,7 @@ use super::fault::Fault;
 
 /// SR bit 0 and some SR bit 10 + n are set with line n up.
 #[tactic(auto, using(crate::proofs::Masks::lets_in))]
+#[inline(always)]
 pub fn is_interrupting(sr: u32, lines: u8) -> bool
     ensures { result ≡ is_interrupting sr lines }
 {
@@ -21,6 +22,7 @@ pub fn is_interrupting(sr: u32, lines: u8) -> bool
 
 /// The reset line is bit 6.
 #[tactic(auto, using(crate::proofs::Masks::bit_6))]
+#[inline(always)]
 pub fn is_resetting(lines: u8) -> bool
     ensures { result ≡ is_resetting lines }
 {
@@ -29,6 +31,7 @@ pub fn is_resetting(lines: u8) -> bool
 
 /// CR as it is read: bits 15–10 are the lines IT5–IT0 as they stood at the last boundary.
 #[tactic(auto, using(crate::proofs::Masks::line_bits))]
+#[inline(always)]
 pub fn cr_with_lines(lines: u8, cr: u32) -> u32
     ensures { result ≡ cr_with_lines lines cr }
 {
@@ -37,6 +40,7 @@ pub fn cr_with_lines(lines: u8, cr: u32) -> u32
 
 /// Entry: SR's low six bits move left by two, zeros entering.
 #[tactic(auto, using(crate::proofs::Masks::entry_bits))]
+#[inline(always)]
 pub fn sr_on_entry(sr: u32) -> u32
     ensures { result ≡ sr_on_entry sr }
 {
@@ -45,6 +49,7 @@ pub fn sr_on_entry(sr: u32) -> u32
 
 /// Entry: the code of the flag that is up goes to CR's low six bits, times 4; an interrupt has code 0.
 #[tactic(auto, using(crate::proofs::Masks::code_bits, crate::proofs::Masks::code_few))]
+#[inline(always)]
 pub fn cr_on_entry(flag: Option<Fault>, cr: u32) -> u32
     ensures { result ≡ cr_on_entry (entry_code flag) cr }
 {
@@ -53,6 +58,7 @@ pub fn cr_on_entry(flag: Option<Fault>, cr: u32) -> u32
 
 /// Return: SR bits 5–2 are copied to bits 3–0.
 #[tactic(auto, using(crate::proofs::Masks::return_bits))]
+#[inline(always)]
 pub fn sr_on_return(sr: u32) -> u32
     ensures { result ≡ sr_on_return sr }
 {
@@ -60,6 +66,7 @@ pub fn sr_on_return(sr: u32) -> u32
 }
 
 /// The code that is in CR.
+#[inline(always)]
 pub fn cr_code(cr: u32) -> u32
     ensures { result ≡ cr_code cr }
 {

@@ -21,6 +21,7 @@ pub struct Ledger {
 
 impl Ledger {
     /// One entry more of a code, whose four low bits count.
+    #[inline(always)]
     pub fn note(&mut self, code: u32, epc: u32)
         ensures { self.new.entries ≡ with_entry (code % 16) epc self.old.entries }
     {

@@ -28,12 +28,14 @@ pub enum Operation {
     Dsr,
 }
 
+#[inline(always)]
 fn shift_right_signed(x: u32, y: u32) -> u32
     ensures { result ≡ result_of Sra x y }
 {
     (x.cast_signed() >> (y & 0x1F)).cast_unsigned()
 }
 
+#[inline(always)]
 fn signed_product_low(x: u32, y: u32) -> u32
     ensures { result ≡ result_of Msl x y }
 {
@@ -42,6 +44,7 @@ fn signed_product_low(x: u32, y: u32) -> u32
         .cast_unsigned()
 }
 
+#[inline(always)]
 fn signed_product_high(x: u32, y: u32) -> u32
     ensures { result ≡ result_of Msh x y }
 {
@@ -49,6 +52,7 @@ fn signed_product_high(x: u32, y: u32) -> u32
     (product.cast_unsigned() >> 32) as u32
 }
 
+#[inline(always)]
 fn signed_quotient(x: u32, y: u32) -> u32
     ensures { result ≡ result_of Dsq x y }
 {
@@ -60,6 +64,7 @@ fn signed_quotient(x: u32, y: u32) -> u32
         .cast_unsigned()
 }
 
+#[inline(always)]
 fn signed_remainder(x: u32, y: u32) -> u32
     ensures { result ≡ result_of Dsr x y }
 {
@@ -73,6 +78,7 @@ fn signed_remainder(x: u32, y: u32) -> u32
 
 impl Operation {
     /// What it gives for X and Y.
+    #[inline(always)]
     fn result(self, x: u32, y: u32) -> u32
         ensures { result ≡ result_of self x y }
     {
@@ -100,6 +106,7 @@ impl Operation {
     }
 
     /// Signed overflow, which a sum or a difference alone can have.
+    #[inline(always)]
     fn overflows(self, x: u32, y: u32) -> bool
         ensures { result ≡ overflows self x y }
     {
@@ -112,6 +119,7 @@ impl Operation {
 }
 
 /// RES, signed overflow, and whether RES is zero.
+#[inline(always)]
 pub fn box_output(operation: Operation, x: u32, y: u32) -> (u32, bool, bool)
     ensures { result ≡ box_output operation x y }
 {

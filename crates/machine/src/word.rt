@@ -14,6 +14,7 @@ pub enum Field {
 
 impl Field {
     /// The number of the register that the field names.
+    #[inline(always)]
     pub fn register(self, ir: u32) -> usize
         ensures is { result ≡ register_field self ir }
         ensures below { result < 32 }
@@ -23,6 +24,7 @@ impl Field {
 }
 
 /// Bits 31–26.
+#[inline(always)]
 pub fn opcode(ir: u32) -> u16
     ensures { result ≡ opcode ir }
 {
@@ -30,6 +32,7 @@ pub fn opcode(ir: u32) -> u16
 }
 
 /// Bits 5–0.
+#[inline(always)]
 pub fn function(ir: u32) -> u16
     ensures { result ≡ function ir }
 {
@@ -37,6 +40,7 @@ pub fn function(ir: u32) -> u16
 }
 
 /// Bits 14–11: the number of a system register.
+#[inline(always)]
 pub fn system_number(ir: u32) -> u16
     ensures { result ≡ system_number ir }
 {
@@ -44,6 +48,7 @@ pub fn system_number(ir: u32) -> u16
 }
 
 /// Bits 10–6.
+#[inline(always)]
 pub fn shift_amount(ir: u32) -> u32
     ensures { result ≡ shift_amount ir }
 {
@@ -51,6 +56,7 @@ pub fn shift_amount(ir: u32) -> u32
 }
 
 /// Bits 15–0, their sign extended.
+#[inline(always)]
 pub fn signed_immediate(ir: u32) -> u32
     ensures { result ≡ signed_immediate ir }
 {
@@ -59,6 +65,7 @@ pub fn signed_immediate(ir: u32) -> u32
 }
 
 /// Four times the signed immediate, as a branch counts words.
+#[inline(always)]
 pub fn branch_offset(ir: u32) -> u32
     ensures { result ≡ branch_offset ir }
 {
@@ -66,6 +73,7 @@ pub fn branch_offset(ir: u32) -> u32
 }
 
 /// Four times bits 25–0.
+#[inline(always)]
 pub fn jump_index(ir: u32) -> u32
     ensures { result ≡ jump_index ir }
 {

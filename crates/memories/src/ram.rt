@@ -19,6 +19,7 @@ pub struct Ram<'a> {
 }
 
 /// Where in its word a write begins: a word write ignores two low address bits, a half write one.
+#[inline(always)]
 fn lane(width: Width, address: u32) -> usize
     ensures { result ≡ first_address width address - word_of address }
 {
@@ -52,6 +53,7 @@ impl<'a> Ram<'a> {
 }
 
 impl Ram<'_> {
+    #[inline(always)]
     fn region(&self) -> Region<'_>
         ensures base { result.base ≡ self.now.base }
         ensures bytes { result.bytes.now ≡ self.now.bytes.now }
@@ -62,6 +64,7 @@ impl Ram<'_> {
         }
     }
 
+    #[inline(always)]
     fn write(&mut self, width: Width, address: u32, data: u32) -> Answer
         ensures same_reference { self.new.bytes.ghost_name ≡ self.old.bytes.ghost_name }
         ensures moves { RegionSteps self.old.base self.old.bytes.now (write_of width address «data»)
@@ -89,6 +92,7 @@ impl Ram<'_> {
     }
 
     /// One request of bytes that can be read and written.
+    #[inline(always)]
     pub(crate) fn answer(&mut self, q: Request) -> Answer
         ensures same_reference { self.new.bytes.ghost_name ≡ self.old.bytes.ghost_name }
         ensures moves { RegionSteps self.old.base self.old.bytes.now q result self.new.base self.new.bytes.now }
@@ -105,6 +109,7 @@ impl Bus for Ram<'_> {
 
     ghost steps = { RamSteps };
 
+    #[inline(always)]
     fn request(&mut self, q: Request) -> Answer {
         self.answer(q)
     }
@@ -113,6 +118,7 @@ impl Bus for Ram<'_> {
         self.region().look(address)
     }
 
+    #[inline(always)]
     fn longest_wait(&self) -> u16 {
         LONGEST_WAIT
     }

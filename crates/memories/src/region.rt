@@ -20,6 +20,7 @@ pub(crate) struct Region<'a> {
 
 impl Region<'_> {
     /// Where the word of an address begins within the range, or none where it lies outside.
+    #[inline(always)]
     pub(crate) fn offset(&self, address: u32) -> Option<usize>
         ensures { result ≡ (if is_outside self.now.base (length self.now.bytes.now) (word_of address)
             then None
@@ -30,6 +31,7 @@ impl Region<'_> {
     }
 
     /// The word of an address.
+    #[inline(always)]
     pub(crate) fn read(&self, address: u32) -> Answer
         ensures { result ≡ (if is_outside self.now.base (length self.now.bytes.now) (word_of address)
             then BusError

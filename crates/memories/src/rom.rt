@@ -35,6 +35,7 @@ impl Bus for Rom<'_> {
 
     ghost steps = { RomSteps };
 
+    #[inline(always)]
     fn request(&mut self, q: Request) -> Answer {
         match q.action {
             Action::Read => self.region.read(q.address),
@@ -46,6 +47,7 @@ impl Bus for Rom<'_> {
         self.region.look(address)
     }
 
+    #[inline(always)]
     fn longest_wait(&self) -> u16 {
         LONGEST_WAIT
     }

@@ -39,6 +39,7 @@ impl Bus for Scratch {
 
     ghost steps = { ScratchSteps };
 
+    #[inline(always)]
     fn request(&mut self, q: Request) -> Answer {
         let base = self.base;
         match &mut self.bytes {
@@ -53,6 +54,7 @@ impl Bus for Scratch {
         Region { base, bytes }.look(address)
     }
 
+    #[inline(always)]
     fn longest_wait(&self) -> u16 {
         LONGEST_WAIT
     }

@@ -1,2 +1,3 @@
 pub mod Bounds
+pub mod ChipCycle
 pub mod Cycle

@@ -3,13 +3,14 @@
 ghost use Rattle.std.specs.Prelude.{◌≡◌, ◌<◌};
 ghost use Rattle.machine.specs.Registers.{general_with, regs_of, with_ir};
 ghost use Rattle.microprogram.specs.Cycle.{chip_state, state_at_power_up, regs_with_result, row_access, row_output};
-ghost use Rattle.microprogram.specs.Cycle.{dt_after, ir_after, saves_pc};
+ghost use Rattle.microprogram.specs.Cycle.{dt_after, flag_after, ir_after, saves_pc};
 ghost use Rattle.microprogram.specs.Cycle.{state_after, unless_flagged, word_brought};
 
 use super::chip::Chip;
 use super::faults::{Check, Evidence};
 use super::sequencing;
 use bus::request::{Answer, Request, Width};
+use machine::fault::Fault;
 use machine::interrupt::{cr_code, cr_on_entry, sr_on_entry, sr_on_return};
 use machine::ledger::Ledger;
 use machine::operation::box_output;
@@ -18,6 +19,7 @@ use machine::word::Field;
 use rows::row::{Destination, OperandX, Row, Transfer};
 
 /// The rows epc1 and epc2 save PC: they write EPC from it.
+#[inline(always)]
 fn saves_pc(destination: Destination, x: OperandX) -> bool
     ensures { result ≡ saves_pc destination x }
 {
@@ -25,6 +27,7 @@ fn saves_pc(destination: Destination, x: OperandX) -> bool
 }
 
 /// The word that a finished access brings, or else the old one.
+#[inline(always)]
 fn word_brought(answer: Option<Answer>, old: u32) -> u32
     ensures { result ≡ word_brought answer old }
 {
@@ -35,6 +38,7 @@ fn word_brought(answer: Option<Answer>, old: u32) -> u32
 }
 
 /// Writes a general register; register 0 stays.
+#[inline(always)]
 fn write_general(general: &mut [u32; 32], n: usize, value: u32)
     requires { n < 32 }
     ensures { general.new ≡ general_with n value general.old }
@@ -45,6 +49,7 @@ fn write_general(general: &mut [u32; 32], n: usize, value: u32)
 }
 
 /// Writes the result to its destination.
+#[inline(always)]
 fn write(registers: &mut Registers, destination: Destination, res: u32)
     ensures regs { regs_of registers.new
         ≡ regs_with_result destination registers.old.flag res (regs_of registers.old) }
@@ -81,6 +86,7 @@ fn write(registers: &mut Registers, destination: Destination, res: u32)
 }
 
 /// Puts the word that a finished access brings into IR or DT.
+#[inline(always)]
 fn load(registers: &mut Registers, transfer: Transfer, answer: Option<Answer>)
     ensures regs { regs_of registers.new
         ≡ with_ir (ir_after transfer answer registers.old.ir) (regs_of registers.old) }
@@ -91,6 +97,21 @@ fn load(registers: &mut Registers, transfer: Transfer, answer: Option<Answer>)
         Transfer::If => registers.ir = word_brought(answer, registers.ir),
         Transfer::Lw => registers.dt = word_brought(answer, registers.dt),
         Transfer::Nop | Transfer::Ww | Transfer::Wh | Transfer::Wb => {}
+    }
+}
+
+/// Puts the flag that is up after a row. One that is up is never replaced by another, so it is written only where it
+/// rises or goes.
+#[inline(always)]
+fn put_flag(registers: &mut Registers, check: Check)
+    requires { check.before ≡ registers.old.flag }
+    ensures regs { regs_of registers.new ≡ regs_of registers.old }
+    ensures dt { registers.new.dt ≡ registers.old.dt }
+    ensures flag { registers.new.flag ≡ flag_after check.detection check.before check.new }
+{
+    let flag = check.flag_after();
+    if flag.is_some() != check.before.is_some() {
+        registers.flag = flag;
     }
 }
 
@@ -123,7 +144,8 @@ impl Chip {
     }
 
     /// What the operation box gives in a row: RES, signed overflow, and whether RES is zero.
-    pub fn row_output(&self, row: Row) -> (u32, bool, bool)
+    #[inline(always)]
+    pub(crate) fn row_output(&self, row: Row) -> (u32, bool, bool)
         ensures { result ≡ row_output row (chip_state self.now) }
     {
         let x = self.operand_x(row.x);
@@ -131,12 +153,17 @@ impl Chip {
         box_output(row.operation, x, y)
     }
 
-    /// The request that a row makes: none where a flag is up.
-    pub fn request(&self, transfer: Transfer, res: u32) -> Option<Request>
-        ensures { result
-            ≡ unless_flagged self.now.registers.flag (row_access (regs_of self.now.registers) transfer res) }
+    /// The request that a row makes: none where a flag is up before it.
+    #[inline(always)]
+    pub(crate) fn request(
+        &self,
+        flag: Option<Fault>,
+        transfer: Transfer,
+        res: u32,
+    ) -> Option<Request>
+        ensures { result ≡ unless_flagged flag (row_access (regs_of self.now.registers) transfer res) }
     {
-        if self.registers.flag.is_some() {
+        if flag.is_some() {
             return None;
         }
         let (pc, ad) = (self.registers.pc, self.registers.ad);
@@ -150,14 +177,18 @@ impl Chip {
         }
     }
 
-    /// The end of a cycle that is not frozen: what its row does with its output and with the answer to its request.
-    pub fn advance(
+    /// The end of a cycle that is not frozen: what its row does with its output and with the answer to its request, where
+    /// the flag that is up before it is known.
+    #[inline(always)]
+    pub(crate) fn advance(
         &mut self,
+        before: Option<Fault>,
         row: Row,
         lines: u8,
         output: (u32, bool, bool),
         answer: Option<Answer>,
     )
+        requires { before ≡ self.old.registers.flag }
         ensures { chip_state self.new ≡ state_after row lines output answer (chip_state self.old) }
     {
         let (res, overflow, zero) = output;
@@ -169,7 +200,7 @@ impl Chip {
         };
         let check = Check {
             detection: row.detection,
-            before: self.registers.flag,
+            before,
             new: evidence.fault_found(row.detection),
         };
         let flag = check.flag_after();
@@ -181,7 +212,7 @@ impl Chip {
             write(&mut self.registers, row.destination, res);
         }
         load(&mut self.registers, row.transfer, answer);
-        self.registers.flag = flag;
+        put_flag(&mut self.registers, check);
         if sequencing::ends_path(row.sequencing) {
             self.sampled = lines;
         }

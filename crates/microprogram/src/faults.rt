@@ -19,6 +19,7 @@ pub(crate) struct Evidence {
 }
 
 impl Evidence {
+    #[inline(always)]
     fn is_bus_error(self) -> bool
         ensures { result ≡ is_bus_error self.answer }
     {
@@ -26,6 +27,7 @@ impl Evidence {
     }
 
     /// The fault that a row with this detection finds.
+    #[inline(always)]
     pub(crate) fn fault_found(self, detection: Detection) -> Option<Fault>
         ensures { result ≡ fault_found detection self.sr self.res self.overflow self.answer }
     {
@@ -60,6 +62,7 @@ pub(crate) struct Check {
 
 impl Check {
     /// Whether the row clears the flag; such a row is stopped by nothing.
+    #[inline(always)]
     fn clears_flag(self) -> bool
         ensures { result ≡ clears_flag self.detection }
     {
@@ -67,6 +70,7 @@ impl Check {
     }
 
     /// The flag after the row; one that is up stays, and no second one is raised.
+    #[inline(always)]
     pub(crate) fn flag_after(self) -> Option<Fault>
         ensures { result ≡ flag_after self.detection self.before self.new }
     {
@@ -78,6 +82,7 @@ impl Check {
     }
 
     /// Whether the fault that is found stops the cycle; bus errors do not stop the one that meets them.
+    #[inline(always)]
     fn stops_its_cycle(self) -> bool
         ensures { result ≡ stops_its_cycle self.new }
     {
@@ -85,6 +90,7 @@ impl Check {
     }
 
     /// Whether the registers that software sees may be written.
+    #[inline(always)]
     pub(crate) fn may_write_visible(self) -> bool
         ensures { result ≡ may_write_visible self.detection self.before self.new }
     {
@@ -92,6 +98,7 @@ impl Check {
     }
 
     /// Whether the destination may be written: a fault of this very cycle does not stop AD.
+    #[inline(always)]
     pub(crate) fn may_write(self, destination: Destination) -> bool
         ensures { result ≡ may_write destination self.detection self.before self.new }
     {

@@ -4,6 +4,7 @@
 
 pub mod bounds;
 pub mod chip;
+pub mod chip_cycle;
 pub mod cycle;
 mod faults;
 mod operands;

@@ -11,6 +11,7 @@ use rows::row::{OperandX, OperandY};
 
 impl Chip {
     /// Operand X; CR has the lines as they stood at the last boundary.
+    #[inline(always)]
     pub(crate) fn operand_x(&self, x: OperandX) -> u32
         ensures { result ≡ operand_x self.now.sampled self.now.registers.dt (regs_of self.now.registers) x }
     {
@@ -35,6 +36,7 @@ impl Chip {
     }
 
     /// Operand Y.
+    #[inline(always)]
     pub(crate) fn operand_y(&self, y: OperandY) -> u32
         ensures { result ≡ operand_y self.now.registers.dt (regs_of self.now.registers) y }
     {

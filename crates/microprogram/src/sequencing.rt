@@ -13,6 +13,7 @@ use machine::word::{function, opcode, system_number};
 use rows::row::{Row, Sequencing};
 
 /// A bit of a word, as 1 or 0.
+#[inline(always)]
 fn bit(n: u32, word: u32) -> u16
     ensures { result ≡ one_if (bit (n % 32) word) }
 {
@@ -20,6 +21,7 @@ fn bit(n: u32, word: u32) -> u16
 }
 
 /// Whether a path ends with a row of this sequencing.
+#[inline(always)]
 pub fn ends_path(sequencing: Sequencing) -> bool
     ensures { result ≡ ends_path sequencing }
 {
@@ -27,6 +29,7 @@ pub fn ends_path(sequencing: Sequencing) -> bool
 }
 
 /// What a boundary adds to AMIC: reset, interrupt, flag.
+#[inline(always)]
 fn boundary_choice(sr: u32, lines: u8, flag: bool) -> u16
     ensures { result ≡ one_if (is_resetting lines) * 4 + one_if (is_interrupting sr lines) * 2 + one_if flag }
 {
@@ -35,6 +38,7 @@ fn boundary_choice(sr: u32, lines: u8, flag: bool) -> u16
 
 impl Chip {
     /// The address of the row that follows.
+    #[inline(always)]
     pub(crate) fn next_row(&self, row: &Row, res: u32, zero: bool, lines: u8, flag: bool) -> u16
         ensures { result ≡ next_row row.now.sequencing row.now.amic (regs_of self.now.registers) res zero lines flag }
     {

@@ -9,9 +9,10 @@ use Rattle.bus.specs.declared.request.Answer.{Answer}
 use Rattle.bus.specs.declared.request.Answer.TheVariants.{Wait, BusError, Done}
 use Rattle.bus.specs.declared.request.Request.{Request}
 use Rattle.paths.specs.Instant.{StillKeeps, World, bytes_after, still_memory, world_after_cycle}
+use Rattle.microprogram.specs.ChipCycle.{Asks, is_wait}
 use Rattle.microprogram.specs.Cycle.{row_output, state_after}
 use Rattle.rows.specs.declared.row.Row.{Row}
-use Rattle.r3000.specs.Cycle.{Asks, Cycle, next_request, is_wait}
+use Rattle.r3000.specs.Cycle.{Cycle, next_request}
 use Rattle.r3000.specs.Machine.{Machine, current_row}
 use Rattle.r3000.proofs.Parts.{state_of}
 use Rattle.r3000.specs.Promise.{refusals}

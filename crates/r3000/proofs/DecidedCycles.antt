@@ -4,7 +4,8 @@ use Rattle.bus.specs.Decided.{IsDecided}
 use Rattle.bus.specs.Meaning.{Keeps, Meaning}
 use Rattle.bus.specs.declared.request.Answer.{Answer}
 use Rattle.bus.specs.declared.request.Request.{Request}
-use Rattle.r3000.specs.Cycle.{Asks, Cycle, Cycles, core_after_cycle, next_request, is_wait}
+use Rattle.microprogram.specs.ChipCycle.{Asks, is_wait}
+use Rattle.r3000.specs.Cycle.{Cycle, Cycles, core_after_cycle, next_request}
 use Rattle.r3000.specs.Decided.{CyclesAsDecided, meaning_after_cycle, core_meaning, cycle_answer, after_one_cycle}
 use Rattle.r3000.specs.Decided.{after_cycles}
 use Rattle.r3000.specs.Machine.{Machine}

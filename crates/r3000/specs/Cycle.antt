@@ -1,22 +1,10 @@
 -- One cycle of a core, and several. Assumes nothing.
-use Rattle.std.specs.Prelude.{◌≡◌, ℕ, zero, suc, Bool, true, false, cond, Some, None, Option}
+use Rattle.std.specs.Prelude.{◌≡◌, ℕ, zero, suc, Bool, cond, Option}
 use Rattle.bus.specs.declared.request.Answer.{Answer}
-use Rattle.bus.specs.declared.request.Answer.TheVariants.{Wait, BusError, Done}
 use Rattle.bus.specs.declared.request.Request.{Request}
+use Rattle.microprogram.specs.ChipCycle.{Asks, is_wait}
 use Rattle.microprogram.specs.Cycle.{State, request_of, row_output, state_after}
 use Rattle.r3000.specs.Machine.{Machine, current_row, observation_after}
-
--- how a pile goes on in a cycle: it is asked exactly where the cycle makes a request
-abbrev pub Asks : {S : Type 0} → (S → Request → Answer → S → Type 0) → S → Option Request → Option Answer → S → Type 0
-Asks steps s None a t = (a ≡ None) × (t ≡ s)
-Asks steps s (Some q) a t = (b : Answer) × (a ≡ Some b) × steps s q b t
-
--- a cycle is frozen exactly when the pile answers wait
-abbrev pub is_wait : Option Answer → Bool
-is_wait None = false
-is_wait (Some Wait) = true
-is_wait (Some BusError) = false
-is_wait (Some (Done w)) = false
 
 -- a core after a cycle, by whether it was frozen, the answer to its request, and what its pile then is: a frozen cycle
 -- leaves the processor as it is, another one does what the row says

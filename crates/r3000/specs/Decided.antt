@@ -4,7 +4,8 @@ use Rattle.bus.specs.Decided.{IsDecided}
 use Rattle.bus.specs.Meaning.{Meaning, answer}
 use Rattle.bus.specs.declared.request.Answer.{Answer}
 use Rattle.bus.specs.declared.request.Request.{Request}
-use Rattle.r3000.specs.Cycle.{Cycles, core_after_cycle, next_request, is_wait}
+use Rattle.microprogram.specs.ChipCycle.{is_wait}
+use Rattle.r3000.specs.Cycle.{Cycles, core_after_cycle, next_request}
 use Rattle.r3000.specs.Machine.{Machine, no_history}
 use Rattle.r3000.specs.Promise.{Upholds}
 

@@ -51,6 +51,7 @@ impl Counts {
     }
 
     /// One cycle more, by whether it was frozen and whether its row ends a path.
+    #[inline(always)]
     pub(crate) fn count(&mut self, frozen: bool, last: bool)
         requires { self.old.report.cycles < max_cycles }
         ensures { self.new.report ≡ report_after frozen last self.old.report }

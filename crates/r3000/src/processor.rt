@@ -4,16 +4,15 @@ ghost use Rattle.std.specs.Prelude.{◌≡◌, ◌<◌};
 ghost use Rattle.microprogram.specs.Cycle.{chip_state, state_at_power_up};
 ghost use Rattle.r3000.specs.Core.{machine_of_parts};
 ghost use Rattle.r3000.specs.Counts.{zero_counts};
-ghost use Rattle.r3000.specs.Cycle.{Asks, Cycle, is_wait};
+ghost use Rattle.r3000.specs.Cycle.{Cycle};
 ghost use Rattle.r3000.specs.Limits.{max_cycles};
 ghost use Rattle.r3000.specs.Machine.{History};
 
 use super::counts::Counts;
 use bus::memory::Bus;
-use bus::request::{Answer, Request};
+use dispatch::by_row::cycle_by_row;
 use microprogram::chip::Chip;
-use microprogram::sequencing::ends_path;
-use rows::rows::row;
+use microprogram::chip_cycle::CycleEnd;
 
 /// A core without its pile.
 #[derive(Clone, Copy)]
@@ -37,38 +36,22 @@ impl Processor {
             counts: Counts::new(),
         }
     }
-
-    /// One cycle on a pile; tells whether it was frozen.
-    pub(crate) fn cycle<B: Bus>(&mut self, pile: &mut B) -> bool
-        requires { self.old.counts.report.cycles < max_cycles }
-        ensures { (h : History)
-            → (k : History)
-            × Cycle B.Bus.steps (machine_of_parts h self.old pile.old) result (machine_of_parts k self.new pile.new) }
-    {
-        let row = row(self.chip.row);
-        let output = self.chip.row_output(row);
-        let (res, ..) = output;
-        let request = self.chip.request(row.transfer, res);
-        let answer = ask(pile, request);
-        let frozen = is_wait(answer);
-        if !frozen {
-            self.chip.advance(row, self.lines, output, answer);
-        }
-        self.counts.count(frozen, ends_path(row.sequencing));
-        frozen
-    }
 }
 
-/// Asks the pile exactly where there is a request.
-fn ask<B: Bus>(pile: &mut B, request: Option<Request>) -> Option<Answer>
-    ensures { Asks B.Bus.steps pile.old request result pile.new }
+/// One cycle of a processor, given in its parts, on a pile; tells whether it was frozen. In parts, the counts are apart
+/// from the chip, whose arrays have to lie in memory: so the compiler can keep them in registers.
+#[inline(always)]
+pub(crate) fn cycle<B: Bus>(chip: &mut Chip, lines: u8, counts: &mut Counts, pile: &mut B) -> bool
+    requires { counts.old.report.cycles < max_cycles }
+    ensures { (h : History)
+        → (k : History)
+        × Cycle B.Bus.steps
+            (machine_of_parts h (record { chip = chip.old; lines = lines; counts = counts.old }) pile.old)
+            result
+            (machine_of_parts k (record { chip = chip.new; lines = lines; counts = counts.new }) pile.new) }
 {
-    Some(pile.request(request?))
-}
-
-/// A cycle is frozen exactly when the pile answers wait.
-fn is_wait(answer: Option<Answer>) -> bool
-    ensures { result ≡ is_wait answer }
-{
-    answer == Some(Answer::Wait)
+    let end = cycle_by_row(chip, lines, pile);
+    let frozen = matches!(end, CycleEnd::Frozen);
+    counts.count(frozen, matches!(end, CycleEnd::Boundary));
+    frozen
 }

@@ -1206,6 +1206,7 @@ static ROWS: [Fields; ROW_COUNT] = [
 ];
 
 /// The fields at an address; beyond the last row, an illegal code too.
+#[inline(always)]
 fn fields(address: u16) -> Fields
     ensures { result ≡ slice_index_or rows address empty_fields }
 {
@@ -1215,6 +1216,7 @@ fn fields(address: u16) -> Fields
 }
 
 /// The row at an address.
+#[inline(always)]
 pub fn row(address: u16) -> Row
     ensures { result ≡ row_at address }
 {

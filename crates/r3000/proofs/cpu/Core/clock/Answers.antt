@@ -9,7 +9,9 @@ returns g c h =
     let granted : Ok _ ≡ check_cycles 1 c.args.self.now.processor.counts.report = c.in_ok-check_cycles.ensures in
     let done = c.cycle-frozen.ensures h in
     let before = machine_of h c.args.self.now in
-    let after = machine_of_parts done.0 c.cycle-frozen.new.self c.cycle-frozen.new.pile in
+    let after = machine_of_parts done.0
+    (record { chip = c.cycle-frozen.new.chip; lines = before.processor.lines; counts = c.cycle-frozen.new.counts })
+    c.cycle-frozen.new.pile in
     let clocked : Clocks g.B.Bus.steps before _ after = rw (← granted) (c.cycle-frozen.result, done.1, refl) in
     (done.0, clocked, clocks c.promise.ensures before after _ clocked)
 

@@ -56,8 +56,9 @@ returns g c h =
     let so_far = c.loop.invariant h in
     let all : c.loop.counter ≡ c.args.count = omega arith in
     let before = machine_of h c.args.self.now in
-    let after = machine_of_parts so_far.0 c.loop.processor c.loop.self.pile in
-    let ran : Runs g.B.Bus.steps Anything c.args.count before (Ok c.loop.processor.counts.report) after =
+    let after = machine_of_parts so_far.0
+    (record { chip = c.loop.chip; lines = c.args.self.now.processor.lines; counts = c.loop.counts }) c.loop.self.pile in
+    let ran : Runs g.B.Bus.steps Anything c.args.count before (Ok c.loop.counts.report) after =
     rw (← c.in_ok-check_run.ensures) (rw all at so_far.1, refl) in
-    let upheld = runs c.promise.ensures c.args.count before after (Ok c.loop.processor.counts.report) ran in
+    let upheld = runs c.promise.ensures c.args.count before after (Ok c.loop.counts.report) ran in
     (so_far.0, upheld.0, upheld.1)

@@ -9,4 +9,5 @@ invariant-loop g l =
     (h : History)
     → (k : History)
     × Cycles g.B.Bus.steps Anything l.counter (machine_of h l.initial.self)
-    (machine_of_parts k l.processor l.self.pile)
+    (machine_of_parts k (record { chip = l.chip; lines = l.initial.self.processor.lines; counts = l.counts })
+    l.self.pile)
