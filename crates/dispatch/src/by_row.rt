@@ -1,12 +1,12 @@
 //! The cycle in the row at hand.
 //!
-//! A cycle asks the fields of its row what to do. For each listed row there is a function here with that row as a constant,
-//! so that the compiler answers these questions beforehand, and leaves the row's work alone.
+//! A cycle asks the fields of its row what to do. For each listed row there is a function here with that row as a
+//! constant, so that the compiler answers these questions beforehand, and leaves the row's work alone.
 //!
-//! That hangs on hints, here and in the crates below. `#[inline(always)]` stands on every small function that a cycle goes
-//! through: one that is called knows no row. It does not stand on `cycle_in`: the toolchain drops the hint, with no message,
-//! where a function would grow very large, and `cycle_by_row` would. Each `cycle_in` has one caller, and LLVM takes it in by
-//! itself. The table of rows stays as it is, and is read where the row is not a constant.
+//! That hangs on hints, here and in the crates below. `#[inline(always)]` stands on every small function that a cycle
+//! goes through: one that is called knows no row. It does not stand on `cycle_in`: the toolchain drops the hint, with no
+//! message, where a function would grow very large, and `cycle_by_row` would. Each `cycle_in` has one caller, and LLVM
+//! takes it in by itself. The table of rows stays as it is, and is read where the row is not a constant.
 
 ghost use Rattle.std.specs.Prelude.{◌≡◌, Bool, ℕ};
 ghost use Rattle.microprogram.specs.ChipCycle.{ChipCycle};
@@ -28,8 +28,8 @@ fn cycle_in<const R: u16, B: Bus>(chip: &mut Chip, lines: u8, pile: &mut B) -> C
     chip.cycle(row(R), lines, pile)
 }
 
-/// The same, with the row as the table has it: where a flag is up, and for the rows that are not listed. Both are seldom, and
-/// are kept out of the way of all other cycles.
+/// The same, with the row as the table has it: where a flag is up, and for the rows that are not listed. Both are
+/// seldom, and are kept out of the way of all other cycles.
 #[cold]
 #[inline(never)]
 fn cycle_by_table<B: Bus>(chip: &mut Chip, lines: u8, pile: &mut B) -> CycleEnd
@@ -49,8 +49,8 @@ macro_rules! by_row {
     };
 }
 
-/// One cycle in the row at hand, under the lines that stand. Whether a flag is up is asked once, here: in the arms the compiler
-/// knows that none is.
+/// One cycle in the row at hand, under the lines that stand. Whether a flag is up is asked once, here: in the arms the
+/// compiler knows that none is.
 #[inline(always)]
 pub fn cycle_by_row<B: Bus>(chip: &mut Chip, lines: u8, pile: &mut B) -> CycleEnd
     ensures { ChipCycle B.Bus.steps (row_at chip.old.row) lines

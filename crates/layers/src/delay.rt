@@ -1,9 +1,9 @@
 //! Delay: a memory that answers later.
 
-ghost use Rattle.std.specs.Prelude.{◌≡◌};
+ghost use Rattle.std.specs.Prelude.{◌≡◌, ◌-◌, cond, nat_lt};
 ghost use Rattle.bus.specs.Request.{access_of};
-ghost use Rattle.layers.specs.Delay.{DelaySteps, delay, delay_means, delay_state_after, own_waits};
-ghost use Rattle.layers.specs.declared.delay.State.TheVariants.{Idle};
+ghost use Rattle.layers.specs.Delay.{DelaySteps, count_left, delay, delay_means, delay_state_after, own_waits};
+ghost use Rattle.layers.specs.declared.delay.State.TheVariants.{Counting, Idle};
 
 use bus::memory::{Bus, MAX_WAIT};
 use bus::request::{Access, Answer, Request};
@@ -43,6 +43,36 @@ impl<B: Bus> Delay<B> {
         u16::from(self.n).min(MAX_WAIT - self.below.longest_wait()) as u8
     }
 
+    /// The waits that the delay itself still has for an access, which it then counts: what is left of its count where it
+    /// is the counted one, else all. One of them is taken.
+    #[inline(always)]
+    fn count_down(&mut self, asked: Access) -> u8
+        ensures left { result
+            ≡ count_left (own_waits self.old.n (B.Bus.means self.old.below).longest) self.old.state asked }
+        ensures n { self.new.n ≡ self.old.n }
+        ensures below { self.new.below ≡ self.old.below }
+        ensures state { self.new.state ≡ cond (nat_lt 0 result) (Counting asked (result - 1)) self.old.state }
+    {
+        let n = self.own_waits();
+        match (&mut self.state, asked) {
+            (State::Counting { access, left }, asked) if access.same(asked) => {
+                let before = n.min(*left);
+                if before > 0 {
+                    *left = before - 1;
+                }
+                before
+            }
+            (state, asked) if n > 0 => {
+                *state = State::Counting {
+                    access: asked,
+                    left: n - 1,
+                };
+                n
+            }
+            _ => 0,
+        }
+    }
+
     /// Asks the memory below: its wait keeps the delay counting at 0, done and bus error make it idle.
     #[inline(always)]
     fn ask(&mut self, q: Request) -> Answer
@@ -69,22 +99,10 @@ impl<B: Bus> Bus for Delay<B> {
 
     #[inline(always)]
     fn request(&mut self, q: Request) -> Answer {
-        let n = self.own_waits();
-        match (&mut self.state, q.access()) {
-            (State::Counting { access, left }, asked) if access.same(asked) && n.min(*left) > 0 => {
-                *left = n.min(*left) - 1;
-                Answer::Wait
-            }
-            (State::Counting { access, .. }, asked) if access.same(asked) => self.ask(q),
-            (state, asked) if n > 0 => {
-                *state = State::Counting {
-                    access: asked,
-                    left: n - 1,
-                };
-                Answer::Wait
-            }
-            _ => self.ask(q),
+        if self.count_down(q.access()) > 0 {
+            return Answer::Wait;
         }
+        self.ask(q)
     }
 
     fn look(&self, address: u32) -> Option<u8> {
