@@ -122,18 +122,18 @@ def speed_table(programs, seconds):
 
 
 def ratios(row, proved):
-    """The seconds of each proved program over those of the fastest other one: by the best tries, and by the middle."""
+    """How many times as fast each proved program is as the fastest other one: by the best tries, and by the middle."""
     found = []
     others = [tries for place, tries in enumerate(row) if place not in proved]
     for place in proved:
-        best, middle = (of(row[place]) / min(map(of, others)) for of in (min, statistics.median))
+        best, middle = (min(map(of, others)) / of(row[place]) for of in (min, statistics.median))
         found.append(f"{best:.2f} ({middle:.2f})")
     return found
 
 
 def ratio_table(programs, seconds):
-    """How the time of each runjob compares with that of the fastest interpreter."""
+    """How many times as fast as the fastest interpreter each runjob is."""
     proved = [place for place, program in enumerate(programs) if program.label.startswith("runjob")]
     cells = {name: ratios(row, proved) for name, row in seconds.items()}
-    measure = "Seconds of runjob over those of the fastest interpreter: best (middle)"
+    measure = "Times as fast as the fastest interpreter: best (middle)"
     return table(measure, [programs[place].label for place in proved], cells)

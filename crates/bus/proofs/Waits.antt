@@ -2,7 +2,7 @@
 use Rattle.std.proofs.Common.{◌≡◌, ℕ, zero, suc, ◌+◌, ◌≤◌, Bool, true, false, cond, Some, None, Ok, Err, Result, sym}
 use Rattle.std.proofs.Common.{refl, ap, ◌∙◌, subst, arith}
 use Rattle.std.proofs.lemmas.Bool.{ltb-false}
-use Rattle.bus.specs.Meaning.{Answers, Keeps, Meaning, done_word, is_refused, is_stalled, written_byte}
+use Rattle.bus.specs.Meaning.{Answers, IsSound, Meaning, done_word, is_refused, is_stalled, written_byte}
 use Rattle.bus.specs.Request.{access_of, word_of}
 use Rattle.bus.specs.Settle.{Settles, Waits, end_of}
 use Rattle.bus.specs.declared.request.Action.{Action}
@@ -86,82 +86,82 @@ ended : {m : Meaning} {q : Request} {n : ℕ} {m' : Meaning} → Kept m q n m' �
     → n ≡ m.waits (access_of q)
 ended h e = omega (arith, h.waits, ltb-false _ _ e)
 
-module _ {S : Type 0} {means : S → Meaning} {steps : S → Request → Answer → S → Type 0} (keeps : Keeps means steps)
-  where
-    pub waited : (q : Request) (n : ℕ) (s t : S) → Waits steps q n s t → Kept (means s) q n (means t)
-    waited q zero s t h =
+module _ {S : Type 0} {means : S → Meaning} {steps : S → Request → Answer → S → Type 0}
+    (tells : (s : S) (q : Request) (a : Answer) (t : S) → steps s q a t → Answers (means s) q a (means t)) where
+  pub waited : (q : Request) (n : ℕ) (s t : S) → Waits steps q n s t → Kept (means s) q n (means t)
+  waited q zero s t h =
+      record {
+        waits = rw h (omega arith);
+        bytes = λ x. rw h;
+        unreadable = λ w. rw h;
+        unwritable = λ w. rw h;
+        longest = rw h;
+      }
+  waited q (suc n) s t h =
+      let before = waited q n s h.0 h.1 in
+      let now = one_wait (means h.0) q (means t) (tells h.0 q Wait t h.2) in
+      record {
+        waits = omega (arith, before.waits, now.waits);
+        bytes = λ x. now.bytes x ∙ before.bytes x;
+        unreadable = λ w. now.unreadable w ∙ before.unreadable w;
+        unwritable = λ w. now.unwritable w ∙ before.unwritable w;
+        longest = now.longest ∙ before.longest;
+      }
+
+  -- a request never waits more often than W
+  pub bounded : (q : Request) (n : ℕ) (s t : S) → IsSound (means s) → Waits steps q n s t → n ≤ (means s).longest
+  bounded q n s t k h = omega (arith, (waited q n s t h).waits, k.waits (access_of q))
+
+  module _ (q : Request) (n : ℕ) (s u t : S) (h : Waits steps q n s u) where
+    in_fault : steps u q BusError t
+        → Settles means steps s q (record { waits = n; outcome = Err (record { address = q.address }) }) t
+    in_fault k =
+        let w = waited q n s u h in
+        let a = tells u q BusError t k in
+        let e =
+        refused_at_error (is_stalled (means u) q) (is_refused (means u) q) (done_word (means u) q) a.answered in
+        let r : is_refused (means s) q ≡ true = sym (same_refused (means s) (means u) q n w) ∙ e.1 in
         record {
-          waits = rw h (omega arith);
-          bytes = λ x. rw h;
-          unreadable = λ w. rw h;
-          unwritable = λ w. rw h;
-          longest = rw h;
+          asked = (u, BusError, h, k, refl);
+          waits = ended w e.0;
+          ends = rw r;
+          bytes = λ x. a.bytes x ∙ rw (e.0, e.1, r) (w.bytes x);
+          unreadable = λ x. a.unreadable x ∙ w.unreadable x;
+          unwritable = λ x. a.unwritable x ∙ w.unwritable x;
+          longest = a.longest ∙ w.longest;
         }
-    waited q (suc n) s t h =
-        let before = waited q n s h.0 h.1 in
-        let now = one_wait (means h.0) q (means t) (keeps.tells h.0 q Wait t h.2) in
+
+    in_done : (word : ℕ) → steps u q (Done word) t
+        → Settles means steps s q (record { waits = n; outcome = Ok word }) t
+    in_done word k =
+        let w = waited q n s u h in
+        let a = tells u q (Done word) t k in
+        let e =
+        carried_at_done (is_stalled (means u) q) (is_refused (means u) q) (done_word (means u) q) word a.answered
+        in
+        let r : is_refused (means s) q ≡ false = sym (same_refused (means s) (means u) q n w) ∙ e.1 in
         record {
-          waits = omega (arith, before.waits, now.waits);
-          bytes = λ x. now.bytes x ∙ before.bytes x;
-          unreadable = λ w. now.unreadable w ∙ before.unreadable w;
-          unwritable = λ w. now.unwritable w ∙ before.unwritable w;
-          longest = now.longest ∙ before.longest;
+          asked = (u, Done word, h, k, refl);
+          waits = ended w e.0;
+          ends = rw r (ap Ok (e.2 ∙ same_carried (means s) (means u) q n w));
+          bytes = λ x. a.bytes x ∙ rw (e.0, e.1, r) (same_written (means s) (means u) q n w x);
+          unreadable = λ x. a.unreadable x ∙ w.unreadable x;
+          unwritable = λ x. a.unwritable x ∙ w.unwritable x;
+          longest = a.longest ∙ w.longest;
         }
 
-    -- a request never waits more often than W
-    pub bounded : (q : Request) (n : ℕ) (s t : S) → Waits steps q n s t → n ≤ (means s).longest
-    bounded q n s t h = omega (arith, (waited q n s t h).waits, (keeps.sound s).waits (access_of q))
+    -- a request ends with the first answer that is no wait
+    pub ends : (a : Answer) (o : Result ℕ BusFault) → steps u q a t → Some o ≡ end_of q a
+        → Settles means steps s q (record { waits = n; outcome = o }) t
+    ends Wait o k e = let z : ◌≡◌ {A = ℕ} 0 1 = cc in absurd (omega arith)
+    ends BusError o k e = let i : Err (record { address = q.address }) ≡ o = cc in
+        subst (λ x. Settles means steps s q (record { waits = n; outcome = x }) t) i (in_fault k)
+    ends (Done word) o k e = let i : Ok word ≡ o = cc in
+        subst (λ x. Settles means steps s q (record { waits = n; outcome = x }) t) i (in_done word k)
 
-    module _ (q : Request) (n : ℕ) (s u t : S) (h : Waits steps q n s u) where
-      in_fault : steps u q BusError t
-          → Settles means steps s q (record { waits = n; outcome = Err (record { address = q.address }) }) t
-      in_fault k =
-          let w = waited q n s u h in
-          let a = keeps.tells u q BusError t k in
-          let e =
-          refused_at_error (is_stalled (means u) q) (is_refused (means u) q) (done_word (means u) q) a.answered in
-          let r : is_refused (means s) q ≡ true = sym (same_refused (means s) (means u) q n w) ∙ e.1 in
-          record {
-            asked = (u, BusError, h, k, refl);
-            waits = ended w e.0;
-            ends = rw r;
-            bytes = λ x. a.bytes x ∙ rw (e.0, e.1, r) (w.bytes x);
-            unreadable = λ x. a.unreadable x ∙ w.unreadable x;
-            unwritable = λ x. a.unwritable x ∙ w.unwritable x;
-            longest = a.longest ∙ w.longest;
-          }
-
-      in_done : (word : ℕ) → steps u q (Done word) t
-          → Settles means steps s q (record { waits = n; outcome = Ok word }) t
-      in_done word k =
-          let w = waited q n s u h in
-          let a = keeps.tells u q (Done word) t k in
-          let e =
-          carried_at_done (is_stalled (means u) q) (is_refused (means u) q) (done_word (means u) q) word a.answered
-          in
-          let r : is_refused (means s) q ≡ false = sym (same_refused (means s) (means u) q n w) ∙ e.1 in
-          record {
-            asked = (u, Done word, h, k, refl);
-            waits = ended w e.0;
-            ends = rw r (ap Ok (e.2 ∙ same_carried (means s) (means u) q n w));
-            bytes = λ x. a.bytes x ∙ rw (e.0, e.1, r) (same_written (means s) (means u) q n w x);
-            unreadable = λ x. a.unreadable x ∙ w.unreadable x;
-            unwritable = λ x. a.unwritable x ∙ w.unwritable x;
-            longest = a.longest ∙ w.longest;
-          }
-
-      -- a request ends with the first answer that is no wait
-      pub ends : (a : Answer) (o : Result ℕ BusFault) → steps u q a t → Some o ≡ end_of q a
-          → Settles means steps s q (record { waits = n; outcome = o }) t
-      ends Wait o k e = let z : ◌≡◌ {A = ℕ} 0 1 = cc in absurd (omega arith)
-      ends BusError o k e = let i : Err (record { address = q.address }) ≡ o = cc in
-          subst (λ x. Settles means steps s q (record { waits = n; outcome = x }) t) i (in_fault k)
-      ends (Done word) o k e = let i : Ok word ≡ o = cc in
-          subst (λ x. Settles means steps s q (record { waits = n; outcome = x }) t) i (in_done word k)
-
-    -- a request that has not ended was answered by wait
-    pub pile_is_decided : (q : Request) (n : ℕ) (s u t : S) (a : Answer) → Waits steps q n s u → steps u q a t
-        → None ≡ end_of q a → Waits steps q (suc n) s t
-    pile_is_decided q n s u t Wait h k e = (u, h, k)
-    pile_is_decided q n s u t BusError h k e = let z : ◌≡◌ {A = ℕ} 0 1 = cc in absurd (omega arith)
-    pile_is_decided q n s u t (Done word) h k e = let z : ◌≡◌ {A = ℕ} 0 1 = cc in absurd (omega arith)
+  -- a request that has not ended was answered by wait
+  pub waits_on : (q : Request) (n : ℕ) (s u t : S) (a : Answer) → Waits steps q n s u → steps u q a t
+      → None ≡ end_of q a → Waits steps q (suc n) s t
+  waits_on q n s u t Wait h k e = (u, h, k)
+  waits_on q n s u t BusError h k e = let z : ◌≡◌ {A = ℕ} 0 1 = cc in absurd (omega arith)
+  waits_on q n s u t (Done word) h k e = let z : ◌≡◌ {A = ℕ} 0 1 = cc in absurd (omega arith)

@@ -1,6 +1,6 @@
 -- A request that is waited out. Assumes nothing.
 use Rattle.std.specs.Prelude.{◌≡◌, ℕ, zero, suc, cond, Some, None, Ok, Err, Option, Result}
-use Rattle.bus.specs.Meaning.{Meaning, done_word, is_refused, written_byte}
+use Rattle.bus.specs.Meaning.{Answers, Meaning, done_word, is_refused, written_byte}
 use Rattle.bus.specs.Request.{access_of}
 use Rattle.bus.specs.declared.request.Answer.{Answer}
 use Rattle.bus.specs.declared.request.Answer.TheVariants.{Wait, BusError, Done}
@@ -36,3 +36,11 @@ pub record Settles {S : Type 0} (means : S → Meaning) (steps : S → Request �
   pub unreadable : (w : ℕ) → (means t).unreadable w ≡ (means s).unreadable w
   pub unwritable : (w : ℕ) → (means t).unwritable w ≡ (means s).unwritable w
   pub longest : (means t).longest ≡ (means s).longest
+
+-- a request that was answered by waits, and then by an end, was waited out. It is said of meanings alone, which go on
+-- as `Answers` says, and so holds of each memory
+abbrev pub AskedIsSettled : Type 0
+AskedIsSettled =
+    (q : Request) (r : Settled) (m n o : Meaning) (a : Answer) → Waits Answers q r.waits m n → Answers n q a o
+    → end_of q a ≡ Some r.outcome
+    → Settles (λ x. x) Answers m q r o

@@ -2,10 +2,12 @@
 
 ghost use Rattle.std.specs.Prelude.{◌≡◌};
 ghost use Rattle.bus.specs.Meaning.{Meaning, Keeps, look_result};
+ghost use Rattle.bus.specs.Settle.{Settles};
 ghost use Rattle.bus.specs.declared.request.Answer.{Answer};
 ghost use Rattle.bus.specs.declared.request.Request.{Request};
 
 use super::request::{Answer, Request};
+use super::settle::{Settled, end};
 
 /// The most that a memory's longest wait may be.
 pub const MAX_WAIT: u16 = 65_535;
@@ -21,6 +23,23 @@ pub trait Bus {
     /// Asks for one request, which may have to be asked again.
     fn request(&mut self, q: Request) -> Answer
         ensures { steps self.old q result self.new };
+
+    /// Waits a request out: asks for it until the answer is no wait, which takes at most one request more than the
+    /// longest wait.
+    ///
+    /// A layer that knows its waits has a shorter body. It gives and leaves what asking again and again would.
+    fn settle(&mut self, q: Request) -> Settled
+        ensures { Settles means steps self.old q result self.new }
+    {
+        Self::keeps();
+        for waits in 0..=self.longest_wait() {
+            let answer = self.request(q);
+            if let Some(outcome) = end(q, answer) {
+                return Settled { waits, outcome };
+            }
+        }
+        unreachable()
+    }
 
     /// The byte at an address, or none where its word is refused to reads.
     fn look(&self, address: u32) -> Option<u8>

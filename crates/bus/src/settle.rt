@@ -2,7 +2,7 @@
 
 ghost use Rattle.std.specs.Prelude.{◌≡◌};
 ghost use Rattle.bus.specs.Decided.{SettlesAsDecided};
-ghost use Rattle.bus.specs.Settle.{Settles, end_of};
+ghost use Rattle.bus.specs.Settle.{AskedIsSettled, end_of};
 
 use super::memory::Bus;
 use super::request::{Answer, Request};
@@ -21,7 +21,7 @@ pub struct Settled {
 }
 
 /// How the answer ends the request; a wait does not.
-fn end(request: Request, answer: Answer) -> Option<Result<u32, BusFault>>
+pub(crate) fn end(request: Request, answer: Answer) -> Option<Result<u32, BusFault>>
     ensures { result ≡ end_of request answer }
 {
     match answer {
@@ -33,22 +33,13 @@ fn end(request: Request, answer: Answer) -> Option<Result<u32, BusFault>>
     }
 }
 
-/// Asks again until the answer is no wait, which takes at most one request more than the longest wait.
-pub fn settle<B: Bus>(bus: &mut B, request: Request) -> Settled
-    ensures { Settles B.Bus.means B.Bus.steps bus.old request result bus.new }
-{
-    B::keeps();
-    for waits in 0..=bus.longest_wait() {
-        let answer = bus.request(request);
-        if let Some(outcome) = end(request, answer) {
-            return Settled { waits, outcome };
-        }
-    }
-    unreachable()
-}
-
 /// A theorem: where a memory's meaning decides how it goes on, it decides what waiting out leaves. A caller gets it
 /// from the contract.
 pub fn settles_as_decided<B: Bus>()
     ensures { SettlesAsDecided B.Bus.means B.Bus.steps }
+{}
+
+/// A theorem: answers that are waits, and then an end, are a request waited out. A caller gets it from the contract.
+pub fn asked_is_settled()
+    ensures { AskedIsSettled }
 {}

@@ -3,7 +3,6 @@
 use super::{HANDLER, RESET, Section};
 use bus::memory::Bus;
 use bus::request::{Request, Width};
-use bus::settle::settle;
 use pile::pile::Memories;
 use r3000::cpu::Core;
 use r3000::denial::Denial;
@@ -21,7 +20,7 @@ const RESULTS: [u8; 9] = [0x01, 0x07, 0x13, 0x2A, 0x3B, 0x5C, 0x88, 0xFE, 0x37];
 /// Writes the words of a section into the pile.
 pub(super) fn put<B: Bus>(pile: &mut B, section: Section<'_>) {
     for (address, word) in (section.base..).step_by(4).zip(section.words) {
-        let _ = settle(pile, Request::write(Width::Word, address, *word));
+        let _ = pile.settle(Request::write(Width::Word, address, *word));
     }
 }
 

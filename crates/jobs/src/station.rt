@@ -15,7 +15,6 @@ ghost use Rattle.text.specs.Reading.{read_line};
 use super::fault::{JobFault, LoadFault};
 use bus::memory::Bus;
 use bus::request::{Request, Width};
-use bus::settle::settle;
 use r3000::cpu::Core;
 use r3000::processor::Processor;
 use r3000::promise::promise;
@@ -38,7 +37,8 @@ fn write<B: Bus>(pile: &mut B, address: u32, word: u32) -> Result<(), LoadFault>
         × Settles B.Bus.means B.Bus.steps pile.old (load_request address word) q pile.new
         × (result ≡ load_result q.outcome) }
 {
-    settle(pile, Request::write(Width::Word, address, word)).outcome?;
+    pile.settle(Request::write(Width::Word, address, word))
+        .outcome?;
     Ok(())
 }
 

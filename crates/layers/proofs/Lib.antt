@@ -1,1 +1,2 @@
 mod Keeps
+mod Settles

@@ -7,6 +7,7 @@ ghost use Rattle.layers.specs.declared.delay.State.TheVariants.{Counting, Idle};
 
 use bus::memory::{Bus, MAX_WAIT};
 use bus::request::{Access, Answer, Request};
+use bus::settle::{Settled, asked_is_settled};
 
 /// Whether a delay counts.
 #[derive(Clone, Copy)]
@@ -103,6 +104,19 @@ impl<B: Bus> Bus for Delay<B> {
             return Answer::Wait;
         }
         self.ask(q)
+    }
+
+    /// The delay's own waits are known without asking; those of the memory below come after them.
+    fn settle(&mut self, q: Request) -> Settled {
+        Self::keeps();
+        asked_is_settled();
+        let own = self.count_down(q.access());
+        let below = self.below.settle(q);
+        self.state = State::Idle;
+        Settled {
+            waits: u16::from(own) + below.waits,
+            outcome: below.outcome,
+        }
     }
 
     fn look(&self, address: u32) -> Option<u8> {

@@ -6,6 +6,7 @@ ghost use Rattle.layers.specs.Split.{SplitSteps, split, split_means};
 
 use bus::memory::Bus;
 use bus::request::{Answer, Request, word_of};
+use bus::settle::{Settled, asked_is_settled};
 
 #[derive(Drop)]
 pub struct Split<A, B> {
@@ -48,6 +49,16 @@ impl<A: Bus, B: Bus> Bus for Split<A, B> {
             self.first.request(q)
         } else {
             self.second.request(q)
+        }
+    }
+
+    fn settle(&mut self, q: Request) -> Settled {
+        Self::keeps();
+        asked_is_settled();
+        if self.is_first(q.address) {
+            self.first.settle(q)
+        } else {
+            self.second.settle(q)
         }
     }
 

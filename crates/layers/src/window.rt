@@ -5,6 +5,7 @@ ghost use Rattle.layers.specs.Window.{WindowSteps, limit_address, address_below,
 
 use bus::memory::Bus;
 use bus::request::{Answer, Request, word_of};
+use bus::settle::{BusFault, Settled, asked_is_settled};
 
 #[derive(Drop)]
 pub struct Window<B> {
@@ -45,6 +46,26 @@ impl<B: Bus> Bus for Window<B> {
         match self.checked_address_below(q.address) {
             Some(address) => self.below.request(Request { address, ..q }),
             None => Answer::BusError,
+        }
+    }
+
+    /// A fault carries the window's own address.
+    fn settle(&mut self, q: Request) -> Settled {
+        Self::keeps();
+        asked_is_settled();
+        let fault = Err(BusFault { address: q.address });
+        match self.checked_address_below(q.address) {
+            Some(address) => {
+                let below = self.below.settle(Request { address, ..q });
+                Settled {
+                    waits: below.waits,
+                    outcome: below.outcome.or(fault),
+                }
+            }
+            None => Settled {
+                waits: 0,
+                outcome: fault,
+            },
         }
     }
 

@@ -46,9 +46,9 @@ pub(crate) fn cycle<B: Bus>(chip: &mut Chip, lines: u8, counts: &mut Counts, pil
     ensures { (h : History)
         → (k : History)
         × Cycle B.Bus.steps
-            (machine_of_parts h (record { chip = chip.old; lines = lines; counts = counts.old }) pile.old)
-            result
-            (machine_of_parts k (record { chip = chip.new; lines = lines; counts = counts.new }) pile.new) }
+        (machine_of_parts h (record { chip = chip.old; lines = lines; counts = counts.old }) pile.old)
+        result
+        (machine_of_parts k (record { chip = chip.new; lines = lines; counts = counts.new }) pile.new) }
 {
     let end = cycle_by_row(chip, lines, pile);
     let frozen = matches!(end, CycleEnd::Frozen);

@@ -1216,6 +1216,7 @@ fn fields(address: u16) -> Fields
 }
 
 /// The row at an address.
+// the hints: at an address that is a constant, the compiler then knows the fields (dispatch/src/by_row.rt)
 #[inline(always)]
 pub fn row(address: u16) -> Row
     ensures { result ≡ row_at address }

@@ -20,7 +20,7 @@ pick : (b : Bool) (m n top : ℕ) → m ≤ top → n ≤ top → cond b m n ≤
 pick true m n top h k = h
 pick false m n top h k = k
 
-left_bound : (n : ℕ) (state : State) (x : Access) → count_left n state x ≤ n
+pub left_bound : (n : ℕ) (state : State) (x : Access) → count_left n state x ≤ n
 left_bound n Idle x = omega arith
 left_bound n (Counting access count) x = pick (same_access access x) (min count n) n n (omega arith) (omega arith)
 
@@ -36,7 +36,7 @@ same_self : (x : Access) → same_access x x ≡ true
 same_self x = and_from _ _ (eq-eqb x.address x.address refl) (eq-eqb (kind_number x.kind) (kind_number x.kind) refl)
 
 -- the count of the request that is counted for
-left_self : (n c : ℕ) (x : Access) → c ≤ n → count_left n (Counting x c) x ≡ c
+pub left_self : (n c : ℕ) (x : Access) → c ≤ n → count_left n (Counting x c) x ≡ c
 left_self n c x h = rw (same_self x) (omega arith)
 
 -- while the count is above 0

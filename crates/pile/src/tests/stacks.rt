@@ -2,7 +2,7 @@
 
 use bus::memory::Bus;
 use bus::request::{Answer, Request, Width};
-use bus::settle::{BusFault, Settled, settle};
+use bus::settle::{BusFault, Settled};
 use layers::delay::Delay;
 use layers::split::Split;
 use layers::window::Window;
@@ -26,14 +26,14 @@ fn a_pile_of_three_layers(rt: HostRuntime) {
     let mut high = [0u8; 8];
     let split = Split::new(0x103, Ram::new(0xF8, &mut low), Ram::new(0x100, &mut high));
     let mut pile = Window::new(0xFB, 0x13, Delay::new(2, split));
-    let done = settle(&mut pile, Request::write(Width::Word, 4, 0x0A0B_0C0D));
+    let done = pile.settle(Request::write(Width::Word, 4, 0x0A0B_0C0D));
     assert!(rt;
         done == Settled {
             waits: 2,
             outcome: Ok(0),
         }
     );
-    let done = settle(&mut pile, Request::write(Width::Word, 8, 0x0102_0304));
+    let done = pile.settle(Request::write(Width::Word, 8, 0x0102_0304));
     assert!(rt;
         done == Settled {
             waits: 2,
@@ -41,7 +41,7 @@ fn a_pile_of_three_layers(rt: HostRuntime) {
         }
     );
     assert!(rt;
-        settle(&mut pile, Request::read(4))
+        pile.settle(Request::read(4))
             == Settled {
                 waits: 2,
                 outcome: Ok(0x0A0B_0C0D),
@@ -50,10 +50,31 @@ fn a_pile_of_three_layers(rt: HostRuntime) {
     assert_eq!(rt; pile.look(8), Some(4));
     let refused = BusFault { address: 0x10 };
     assert!(rt;
-        settle(&mut pile, Request::read(0x10))
+        pile.settle(Request::read(0x10))
             == Settled {
                 waits: 0,
                 outcome: Err(refused),
+            }
+    );
+}
+
+#[test]
+fn a_request_that_is_waited_out_from_the_middle_on(rt: HostRuntime) {
+    let mut bytes = [1, 2, 3, 4];
+    let mut memory = Delay::new(3, Ram::new(0, &mut bytes));
+    assert!(rt; memory.request(Request::read(0)) == Answer::Wait);
+    assert!(rt;
+        memory.settle(Request::read(0))
+            == Settled {
+                waits: 2,
+                outcome: Ok(0x0403_0201),
+            }
+    );
+    assert!(rt;
+        memory.settle(Request::read(0))
+            == Settled {
+                waits: 3,
+                outcome: Ok(0x0403_0201),
             }
     );
 }

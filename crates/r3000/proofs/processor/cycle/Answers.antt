@@ -65,8 +65,7 @@ returns g c h =
     ∙ ap₂ (λ f l. report_after f l before) freeze (last ∙ ap at_boundary done.ends)
     ∙ counted_by (is_wait done.answer) ends before in
     let old = machine_of_parts h (record { chip = c.args.chip.now; lines = c.args.lines; counts = c.args.counts.now })
-    c.args.pile.now in
-    (
+    c.args.pile.now in (
       history_after old.processor c.match-matches.matches h,
       record { answer = done.answer; asks = done.asks; freeze = freeze; after = rw (freeze, counted, done.after) refl },
     )
