@@ -9,7 +9,6 @@ mod transcript;
 use anyhow::Context;
 use bus::memory::Bus;
 use bus::request::{Request, Width};
-use bus::settle::settle;
 use firmware::{HANDLER, RESET, Section};
 use pile::pile::Memories;
 use r3000::perform::perform;
@@ -24,7 +23,7 @@ const BEYOND: Section<'static> = Section {
 /// Writes the words of a section into the pile, waiting out each.
 fn load<B: Bus>(rt: &impl Print, pile: &mut B, section: Section<'_>) -> anyhow::Result<()> {
     for (address, word) in (section.base..).step_by(4).zip(section.words) {
-        let settled = settle(pile, Request::write(Width::Word, address, *word));
+        let settled = pile.settle(Request::write(Width::Word, address, *word));
         let line = Load {
             address,
             word: *word,
