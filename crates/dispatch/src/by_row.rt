@@ -1,12 +1,14 @@
-//! The cycle in the row at hand.
+//! The cycle by the row at hand.
 //!
-//! A cycle asks the fields of its row what to do. For each listed row there is a function here with that row as a
-//! constant, so that the compiler answers these questions beforehand, and leaves the row's work alone.
+//! A cycle asks the fields of its row what to do. For each of the 159 rows of the listing (rows/specs/Rows.antt) there is
+//! a function here with that row as a constant, so that the compiler answers these questions beforehand, and leaves the
+//! row's work alone. A row that has no arm goes by the table: slower, with the same result.
 //!
 //! That hangs on hints, here and in the crates below. `#[inline(always)]` stands on every small function that a cycle
-//! goes through: one that is called knows no row. It does not stand on `cycle_in`: the toolchain drops the hint, with no
-//! message, where a function would grow very large, and `cycle_by_row` would. Each `cycle_in` has one caller, and LLVM
-//! takes it in by itself. The table of rows stays as it is, and is read where the row is not a constant.
+//! goes through: a function that is called, and not taken into its caller, does not know the row. It does not stand on
+//! `cycle_in`: the toolchain drops the hint, with no message, where a function would grow very large, and `cycle_by_row`
+//! would. In a program that only runs, each `cycle_in` has one caller, and LLVM takes it in by itself; where the program
+//! clocks too, it takes in the small ones. The table stays as it is, and is read where the row is not a constant.
 
 ghost use Rattle.std.specs.Prelude.{◌≡◌, Bool, ℕ};
 ghost use Rattle.microprogram.specs.ChipCycle.{ChipCycle};
@@ -39,7 +41,7 @@ fn cycle_by_table<B: Bus>(chip: &mut Chip, lines: u8, pile: &mut B) -> CycleEnd
     chip.cycle(row(chip.row), lines, pile)
 }
 
-/// Writes an arm for each row of its list, and one for every other row, which reads the table.
+/// Writes an arm for each row of its list, and one for every other row, which goes by the table.
 macro_rules! by_row {
     ($chip:expr, $lines:expr, $pile:expr, $($row:literal)*) => {
         match $chip.row {

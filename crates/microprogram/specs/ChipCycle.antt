@@ -1,4 +1,4 @@
--- One cycle of a chip in a row, frozen or not. Assumes nothing.
+-- One cycle of a chip by a row, frozen or not. Assumes nothing.
 use Rattle.std.specs.Prelude.{◌≡◌, ℕ, Bool, true, false, cond, Some, None, Option}
 use Rattle.bus.specs.declared.request.Answer.{Answer}
 use Rattle.bus.specs.declared.request.Answer.TheVariants.{Wait, BusError, Done}
@@ -20,7 +20,7 @@ is_wait (Some Wait) = true
 is_wait (Some BusError) = false
 is_wait (Some (Done w)) = false
 
--- one cycle in a row, under the lines that stand: of a chip from c to d, on a pile from s to t. A frozen cycle leaves the
+-- one cycle by a row, under the lines that stand: of a chip from c to d, on a pile from s to t. A frozen cycle leaves the
 -- chip as it is, another one does what the row says
 pub record ChipCycle {S : Type 0} (steps : S → Request → Answer → S → Type 0) (w : Row) (lines : ℕ)
     (c : State) (s : S) (end : CycleEnd) (d : State) (t : S) : Type 0 where

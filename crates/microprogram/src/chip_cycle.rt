@@ -8,10 +8,9 @@ use super::chip::Chip;
 use super::sequencing::ends_path;
 use bus::memory::Bus;
 use bus::request::{Answer, Request};
-use machine::fault::Fault;
 use rows::row::Row;
 
-/// How a cycle ends. One enum of three, and no two booleans: the compiler then counts at the end of each case.
+/// How a cycle ends. One enum of three, and no two booleans: the compiler then keeps the three apart up to the counts.
 #[derive(Clone, Copy)]
 pub enum CycleEnd {
     /// The pile answered wait, and nothing of the chip changed.
@@ -39,46 +38,21 @@ fn is_wait(answer: Option<Answer>) -> bool
 }
 
 impl Chip {
-    /// One cycle in a row, under the lines that stand.
+    /// One cycle by a row, under the lines that stand.
     #[inline(always)]
     pub fn cycle<B: Bus>(&mut self, row: Row, lines: u8, pile: &mut B) -> CycleEnd
         ensures { ChipCycle B.Bus.steps row lines (chip_state self.old) pile.old result (chip_state self.new) pile.new }
     {
-        if self.registers.flag.is_some() {
-            return self.flagged_cycle(row, lines, pile);
-        }
-        self.cycle_from(None, row, lines, pile)
-    }
-
-    /// The same where a flag is up, which is seldom: kept out of the way of all other cycles.
-    #[cold]
-    #[inline(never)]
-    fn flagged_cycle<B: Bus>(&mut self, row: Row, lines: u8, pile: &mut B) -> CycleEnd
-        ensures { ChipCycle B.Bus.steps row lines (chip_state self.old) pile.old result (chip_state self.new) pile.new }
-    {
-        self.cycle_from(self.registers.flag, row, lines, pile)
-    }
-
-    /// The same, where the flag that is up before it is known.
-    #[inline(always)]
-    fn cycle_from<B: Bus>(
-        &mut self,
-        flag: Option<Fault>,
-        row: Row,
-        lines: u8,
-        pile: &mut B,
-    ) -> CycleEnd
-        requires { flag ≡ self.old.registers.flag }
-        ensures { ChipCycle B.Bus.steps row lines (chip_state self.old) pile.old result (chip_state self.new) pile.new }
-    {
+        // read once and passed on: a caller who has asked for the flag knows it, and so does the compiler then
+        let before = self.registers.flag;
         let output = self.row_output(row);
         let (res, ..) = output;
-        let request = self.request(flag, row.transfer, res);
+        let request = self.request(before, row.transfer, res);
         let answer = ask(pile, request);
         if is_wait(answer) {
             return CycleEnd::Frozen;
         }
-        self.advance(flag, row, lines, output, answer);
+        self.advance(before, row, lines, output, answer);
         if ends_path(row.sequencing) {
             CycleEnd::Boundary
         } else {

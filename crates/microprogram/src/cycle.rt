@@ -101,7 +101,7 @@ fn load(registers: &mut Registers, transfer: Transfer, answer: Option<Answer>)
 }
 
 /// Puts the flag that is up after a row. One that is up is never replaced by another, so it is written only where it
-/// rises or goes.
+/// rises or goes: the next cycle asks for it first, and would wait for what is just being written.
 #[inline(always)]
 fn put_flag(registers: &mut Registers, check: Check)
     requires { check.before ≡ registers.old.flag }
@@ -153,17 +153,17 @@ impl Chip {
         box_output(row.operation, x, y)
     }
 
-    /// The request that a row makes: none where a flag is up before it.
+    /// The request that a row makes: none where a flag is up before the cycle.
     #[inline(always)]
     pub(crate) fn request(
         &self,
-        flag: Option<Fault>,
+        before: Option<Fault>,
         transfer: Transfer,
         res: u32,
     ) -> Option<Request>
-        ensures { result ≡ unless_flagged flag (row_access (regs_of self.now.registers) transfer res) }
+        ensures { result ≡ unless_flagged before (row_access (regs_of self.now.registers) transfer res) }
     {
-        if flag.is_some() {
+        if before.is_some() {
             return None;
         }
         let (pc, ad) = (self.registers.pc, self.registers.ad);
@@ -177,8 +177,8 @@ impl Chip {
         }
     }
 
-    /// The end of a cycle that is not frozen: what its row does with its output and with the answer to its request, where
-    /// the flag that is up before it is known.
+    /// The end of a cycle that is not frozen: what its row does with its output and with the answer to its request. It is
+    /// given the flag that the chip has before the cycle.
     #[inline(always)]
     pub(crate) fn advance(
         &mut self,

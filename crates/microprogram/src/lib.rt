@@ -1,4 +1,5 @@
-//! The microprogram at work: one cycle as functions of values, and how the rows lead to the end of a path.
+//! The microprogram at work: one cycle of the chip, on a pile and as functions of values, and how the rows lead to the
+//! end of a path.
 
 #![tactic(auto)]
 

@@ -50,7 +50,7 @@ impl Counts {
         self.check_cycles(count)
     }
 
-    /// One cycle more, by whether it was frozen and whether its row ends a path.
+    /// One cycle more, by whether it was frozen and, where it was not, whether its row ends a path.
     #[inline(always)]
     pub(crate) fn count(&mut self, frozen: bool, last: bool)
         requires { self.old.report.cycles < max_cycles }

@@ -39,7 +39,7 @@ impl Processor {
 }
 
 /// One cycle of a processor, given in its parts, on a pile; tells whether it was frozen. In parts, the counts are apart
-/// from the chip, whose arrays have to lie in memory: so the compiler can keep them in registers.
+/// from the chip, whose arrays have to lie in memory: so the compiler can keep the counts in registers.
 #[inline(always)]
 pub(crate) fn cycle<B: Bus>(chip: &mut Chip, lines: u8, counts: &mut Counts, pile: &mut B) -> bool
     requires { counts.old.report.cycles < max_cycles }
