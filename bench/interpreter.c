@@ -1,15 +1,25 @@
-/* A plain interpreter of the row table: the processor of docs/CORE.md on the memory of jobs (docs/BUS.md).
+/* A plain interpreter of the row table: the processor of docs/CORE.md on the memory of jobs (docs/BUS.md). It reads
+ * the row of each cycle from the table, and asks each of its fields.
+ *
+ * With BY_ROW defined the same functions are compiled once for each listed row, with the row as a constant.
  *
  * It reads a job from standard input and answers it as docs/JOBS.md says. It knows no denials: at a line that
  * would be denied it says so on standard error, and ends with status 2.
  *
- * bench/run.py writes the table, rows.h, from tools/model/rows.txt. */
+ * bench/run.py writes the table, rows.h, and the cases of the listed rows, arms.h, from tools/model/rows.txt. */
 
 #include <inttypes.h>
 #include <stdbool.h>
 #include <stdint.h>
 #include <stdio.h>
 #include <string.h>
+
+/* A function that is called does not know the row: so by row, all are taken in. */
+#ifdef BY_ROW
+#define INLINE static inline __attribute__((always_inline))
+#else
+#define INLINE static inline
+#endif
 
 /* ---- rows ---- */
 
@@ -61,12 +71,12 @@ static const struct row rows[1024] = {
 
 /* ---- words ---- */
 
-static inline uint32_t bits(uint32_t word, int high, int low)
+INLINE uint32_t bits(uint32_t word, int high, int low)
 {
     return word >> low & ((UINT32_C(1) << (high - low + 1)) - 1);
 }
 
-static inline uint32_t bit(uint32_t word, int number)
+INLINE uint32_t bit(uint32_t word, int number)
 {
     return word >> number & 1;
 }
@@ -93,7 +103,7 @@ struct memory {
 };
 
 /* The lowest byte of the word at an address, or NULL where it is refused. */
-static inline uint8_t *word_at(struct memory *memory, uint32_t address)
+INLINE uint8_t *word_at(struct memory *memory, uint32_t address)
 {
     uint32_t word = address & ~UINT32_C(3);
     if (address < MARK) {
@@ -104,18 +114,18 @@ static inline uint8_t *word_at(struct memory *memory, uint32_t address)
     return place < sizeof memory->high ? &memory->high[place] : NULL;
 }
 
-static inline uint32_t read_word(const uint8_t *bytes)
+INLINE uint32_t read_word(const uint8_t *bytes)
 {
     return (uint32_t)bytes[0] | (uint32_t)bytes[1] << 8 | (uint32_t)bytes[2] << 16 | (uint32_t)bytes[3] << 24;
 }
 
-static inline void write_half(uint8_t *bytes, uint32_t data)
+INLINE void write_half(uint8_t *bytes, uint32_t data)
 {
     bytes[0] = (uint8_t)data;
     bytes[1] = (uint8_t)(data >> 8);
 }
 
-static inline void write_word(uint8_t *bytes, uint32_t data)
+INLINE void write_word(uint8_t *bytes, uint32_t data)
 {
     bytes[0] = (uint8_t)data;
     bytes[1] = (uint8_t)(data >> 8);
@@ -124,7 +134,7 @@ static inline void write_word(uint8_t *bytes, uint32_t data)
 }
 
 /* What the memory below the delay does. Data is what is written, or takes what is read. */
-static inline enum answer carry_out(struct memory *memory, enum kind kind, uint32_t address, uint32_t *data)
+INLINE enum answer carry_out(struct memory *memory, enum kind kind, uint32_t address, uint32_t *data)
 {
     uint8_t *bytes = word_at(memory, address);
     if (!bytes)
@@ -139,7 +149,7 @@ static inline enum answer carry_out(struct memory *memory, enum kind kind, uint3
     return DONE;
 }
 
-static inline enum answer request(struct memory *memory, enum kind kind, uint32_t address, uint32_t *data)
+INLINE enum answer request(struct memory *memory, enum kind kind, uint32_t address, uint32_t *data)
 {
     if (memory->counted_kind != kind || memory->counted_address != address) {
         memory->counted_kind = kind;
@@ -177,22 +187,22 @@ struct core {
 };
 
 /* CR as it is read: with the lines of the last boundary. */
-static inline uint32_t read_cr(const struct core *core)
+INLINE uint32_t read_cr(const struct core *core)
 {
     return (core->cr & ~UINT32_C(0xFC00)) | bits(core->sampled, 5, 0) << 10;
 }
 
-static inline bool user_mode(const struct core *core)
+INLINE bool user_mode(const struct core *core)
 {
     return bit(core->sr, 1);
 }
 
-static inline uint32_t immediate(const struct core *core)
+INLINE uint32_t immediate(const struct core *core)
 {
     return (uint32_t)(int16_t)core->ir;
 }
 
-static inline uint32_t operand_x(const struct core *core, enum opx opx)
+INLINE uint32_t operand_x(const struct core *core, enum opx opx)
 {
     switch (opx) {
     case OPX_RS: return core->general[bits(core->ir, 25, 21)];
@@ -214,7 +224,7 @@ static inline uint32_t operand_x(const struct core *core, enum opx opx)
     return 0;
 }
 
-static inline uint32_t operand_y(const struct core *core, enum opy opy)
+INLINE uint32_t operand_y(const struct core *core, enum opy opy)
 {
     switch (opy) {
     case OPY_I16: return immediate(core);
@@ -233,28 +243,28 @@ static inline uint32_t operand_y(const struct core *core, enum opy opy)
     return 0;
 }
 
-static inline uint64_t unsigned_product(uint32_t x, uint32_t y)
+INLINE uint64_t unsigned_product(uint32_t x, uint32_t y)
 {
     return (uint64_t)x * y;
 }
 
-static inline uint64_t signed_product(uint32_t x, uint32_t y)
+INLINE uint64_t signed_product(uint32_t x, uint32_t y)
 {
     return (uint64_t)((int64_t)(int32_t)x * (int32_t)y);
 }
 
-static inline uint32_t unsigned_quotient(uint32_t x, uint32_t y)
+INLINE uint32_t unsigned_quotient(uint32_t x, uint32_t y)
 {
     return y == 0 ? UINT32_MAX : x / y;
 }
 
 /* With 64 bits, since the quotient of 80000000 and FFFFFFFF is no signed number of 32. */
-static inline uint32_t signed_quotient(uint32_t x, uint32_t y)
+INLINE uint32_t signed_quotient(uint32_t x, uint32_t y)
 {
     return y == 0 ? UINT32_MAX : (uint32_t)((int64_t)(int32_t)x / (int32_t)y);
 }
 
-static inline uint32_t operate(enum alu alu, uint32_t x, uint32_t y)
+INLINE uint32_t operate(enum alu alu, uint32_t x, uint32_t y)
 {
     switch (alu) {
     case ALU_SUM: return x + y;
@@ -281,7 +291,7 @@ static inline uint32_t operate(enum alu alu, uint32_t x, uint32_t y)
 }
 
 /* Whether a sum or a difference is one that no word stands for. */
-static inline bool overflows(enum alu alu, uint32_t x, uint32_t y, uint32_t result)
+INLINE bool overflows(enum alu alu, uint32_t x, uint32_t y, uint32_t result)
 {
     switch (alu) {
     case ALU_SUM: return bit((x ^ result) & (y ^ result), 31);
@@ -291,7 +301,7 @@ static inline bool overflows(enum alu alu, uint32_t x, uint32_t y, uint32_t resu
 }
 
 /* The answer to the row's request. Data is what is written, or takes what is read. */
-static inline enum answer make_request(const struct core *core, struct memory *memory, enum adrw adrw, uint32_t *data)
+INLINE enum answer make_request(const struct core *core, struct memory *memory, enum adrw adrw, uint32_t *data)
 {
     switch (adrw) {
     case ADRW_NONE: break;
@@ -304,12 +314,12 @@ static inline enum answer make_request(const struct core *core, struct memory *m
     return NOT_ASKED;
 }
 
-static inline bool bad_address(const struct core *core, uint32_t address, uint32_t multiple)
+INLINE bool bad_address(const struct core *core, uint32_t address, uint32_t multiple)
 {
     return (address & (multiple - 1)) != 0 || (user_mode(core) && bit(address, 31));
 }
 
-static inline enum fault fault_found(const struct core *core, const struct row *row, uint32_t x, uint32_t y,
+INLINE enum fault fault_found(const struct core *core, const struct row *row, uint32_t x, uint32_t y,
                                      uint32_t result, enum answer answer)
 {
     switch (row->excp) {
@@ -334,7 +344,7 @@ static inline enum fault fault_found(const struct core *core, const struct row *
 }
 
 /* Whether the result is not written. Of the destinations, software sees all but AD. */
-static inline bool is_stopped(const struct core *core, const struct row *row, enum fault found)
+INLINE bool is_stopped(const struct core *core, const struct row *row, enum fault found)
 {
     if (row->excp == EXCP_CLR)
         return false;
@@ -343,20 +353,20 @@ static inline bool is_stopped(const struct core *core, const struct row *row, en
     return found != NO_FAULT && found != IBE && found != DBE && row->res != RES_AD;
 }
 
-static inline void write_general(struct core *core, uint32_t number, uint32_t word)
+INLINE void write_general(struct core *core, uint32_t number, uint32_t word)
 {
     if (number != 0)
         core->general[number] = word;
 }
 
-static inline void enter(struct core *core)
+INLINE void enter(struct core *core)
 {
     core->sr = (core->sr & ~UINT32_C(0x3F)) | (core->sr << 2 & 0x3F);
     core->cr = (core->cr & ~UINT32_C(0x3F)) | (uint32_t)core->flag << 2;
 }
 
 /* The rows that save PC to EPC are those of an entry, which the ledger notes. */
-static inline void write_epc(struct core *core, const struct row *row, uint32_t word)
+INLINE void write_epc(struct core *core, const struct row *row, uint32_t word)
 {
     core->epc = word;
     if (row->opx == OPX_PC) {
@@ -366,7 +376,7 @@ static inline void write_epc(struct core *core, const struct row *row, uint32_t 
     }
 }
 
-static inline void write_result(struct core *core, const struct row *row, uint32_t result)
+INLINE void write_result(struct core *core, const struct row *row, uint32_t result)
 {
     switch (row->res) {
     case RES_NONE: break;
@@ -387,7 +397,7 @@ static inline void write_result(struct core *core, const struct row *row, uint32
 }
 
 /* Reset, interrupt and fault as three bits. */
-static inline uint32_t boundary(struct core *core, enum fault flag)
+INLINE uint32_t boundary(struct core *core, enum fault flag)
 {
     bool interrupt = bit(core->sr, 0) && (bits(core->sr, 15, 10) & core->lines) != 0;
     core->boundaries++;
@@ -397,7 +407,7 @@ static inline uint32_t boundary(struct core *core, enum fault flag)
 }
 
 /* The next row, by the registers as they were before the cycle and the flag as it is after it. */
-static inline uint32_t next_row(struct core *core, const struct row *row, uint32_t result, enum fault flag)
+INLINE uint32_t next_row(struct core *core, const struct row *row, uint32_t result, enum fault flag)
 {
     uint32_t amic = row->amic, ir = core->ir;
     switch (row->seq) {
@@ -418,16 +428,15 @@ static inline uint32_t next_row(struct core *core, const struct row *row, uint32
 }
 
 /* The flag after a cycle. */
-static inline enum fault next_flag(const struct core *core, const struct row *row, enum fault found)
+INLINE enum fault next_flag(const struct core *core, const struct row *row, enum fault found)
 {
     if (row->excp == EXCP_CLR)
         return NO_FAULT;
     return core->flag != NO_FAULT ? core->flag : found;
 }
 
-static inline void cycle(struct core *core, struct memory *memory)
+INLINE void cycle_in(struct core *core, struct memory *memory, const struct row *row)
 {
-    const struct row *row = &rows[core->row];
     uint32_t x = operand_x(core, row->opx);
     uint32_t y = operand_y(core, row->opy);
     uint32_t result = operate(row->alu, x, y);
@@ -454,6 +463,35 @@ static inline void cycle(struct core *core, struct memory *memory)
         core->dt = data;
     core->flag = flag;
 }
+
+#ifdef BY_ROW
+
+/* Where a flag is up, and in the rows that are not listed: both are seldom. */
+__attribute__((cold, noinline)) static void cycle_by_table(struct core *core, struct memory *memory)
+{
+    cycle_in(core, memory, &rows[core->row]);
+}
+
+INLINE void cycle(struct core *core, struct memory *memory)
+{
+    if (core->flag != NO_FAULT) {
+        cycle_by_table(core, memory);
+        return;
+    }
+    switch (core->row) {
+#include "arms.h"
+    default: cycle_by_table(core, memory);
+    }
+}
+
+#else
+
+INLINE void cycle(struct core *core, struct memory *memory)
+{
+    cycle_in(core, memory, &rows[core->row]);
+}
+
+#endif
 
 static void run(struct core *core, struct memory *memory, uint32_t count)
 {

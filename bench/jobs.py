@@ -12,6 +12,8 @@ HANDLER = 0x80000080
 SR = 12
 EPC = 14
 
+SYSCALL = 12
+
 
 def immediate(opcode, rs, rt, number):
     """The word of an instruction with a number of 16 bits."""
@@ -104,8 +106,26 @@ INTERRUPTS = {
     ],
 }
 
+# An exception again and again: the cycles from its fault to its entry have a flag up.
+EXCEPTIONS = {
+    START: [
+        SYSCALL,
+        j(START),
+    ],
+    HANDLER: [
+        mfc0(26, EPC),
+        addiu(26, 26, 4),
+        jr(26),
+    ],
+}
+
 # The name of each job, its words, and the lines that are up.
-JOBS = {"loads": (LOADS, 0x00), "adds": (ADDS, 0x00), "interrupts": (INTERRUPTS, 0x01)}
+JOBS = {
+    "loads": (LOADS, 0x00),
+    "adds": (ADDS, 0x00),
+    "interrupts": (INTERRUPTS, 0x01),
+    "exceptions": (EXCEPTIONS, 0x00),
+}
 
 # General registers 2 to 5, PC, SR, CR and EPC.
 SHOWN = [0x02, 0x03, 0x04, 0x05, 0x20, 0x23, 0x24, 0x25]

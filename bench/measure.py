@@ -50,7 +50,7 @@ def instructions_a_cycle(program, name, folder):
     return (longer - shorter) / ((COUNTED_RUNS - 1) * RUN)
 
 
-def count(programs, folder):
+def count_table(programs, folder):
     """The table of host instructions a cycle."""
     if not shutil.which("valgrind"):
         raise Failed("valgrind is not there; --no-count does without it")
@@ -84,8 +84,8 @@ def turn(programs, name, folder):
     return seconds
 
 
-def time(programs, tries, folder):
-    """The tables of user seconds, of speeds, and of how runjob compares with the fastest interpreter.
+def time_tables(programs, tries, folder):
+    """The tables of user seconds, of speeds, and of how runjob compares with the fastest plain interpreter.
 
     The programs take turns, so that what else the machine does hits all of them alike.
     """
@@ -121,10 +121,10 @@ def speed_table(programs, seconds):
     return table("Millions of cycles a second: best (middle)", [program.label for program in programs], cells)
 
 
-def ratios(row, proved):
-    """How many times as fast each proved program is as the fastest other one: by the best tries, and by the middle."""
+def ratios(row, proved, plain):
+    """How many times as fast as the fastest plain interpreter each proved program is: by the best tries, the middle."""
     found = []
-    others = [tries for place, tries in enumerate(row) if place not in proved]
+    others = [row[place] for place in plain]
     for place in proved:
         best, middle = (min(map(of, others)) / of(row[place]) for of in (min, statistics.median))
         found.append(f"{best:.2f} ({middle:.2f})")
@@ -132,8 +132,9 @@ def ratios(row, proved):
 
 
 def ratio_table(programs, seconds):
-    """How many times as fast as the fastest interpreter each runjob is."""
-    proved = [place for place, program in enumerate(programs) if program.label.startswith("runjob")]
-    cells = {name: ratios(row, proved) for name, row in seconds.items()}
-    measure = "Times as fast as the fastest interpreter: best (middle)"
+    """How many times as fast as the fastest plain interpreter each runjob is."""
+    proved, plain = ([place for place, program in enumerate(programs) if program.label.startswith(kind)]
+                     for kind in ("runjob", "plain C"))
+    cells = {name: ratios(row, proved, plain) for name, row in seconds.items()}
+    measure = "Times as fast as the fastest plain interpreter: best (middle)"
     return table(measure, [programs[place].label for place in proved], cells)

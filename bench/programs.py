@@ -6,11 +6,14 @@ import subprocess
 from collections import namedtuple
 from pathlib import Path
 
-from model.rows import ROWS
+from model.rows import LISTED, ROWS
 
 HERE = Path(__file__).resolve().parent
 
 COMPILERS = ["gcc", "clang"]
+
+# The two ways to build the interpreter: as it stands, and with code for each listed row.
+WAYS = {"plain C": [], "C by row": ["-DBY_ROW"]}
 
 # The proved program is built for the same processors.
 FLAGS = ["-O3", "-march=x86-64-v2", "-std=c11", "-Wall", "-Wextra"]
@@ -29,7 +32,7 @@ def proved(told, default):
     programs = []
     for text in told or [str(default)]:
         label, mark, path = text.partition("=")
-        program = Program(f"runjob {label}", Path(path)) if mark else Program("runjob now", Path(text))
+        program = Program(f"runjob {label}", Path(path)) if mark else Program("runjob", Path(text))
         if not os.access(program.path, os.X_OK) or program.path.is_dir():
             raise Failed(f"{program.path} is no program; this proves and builds runjob, typed at the top of the "
                          "repository: ( cd crates/runjob && rt run <stdin )")
@@ -45,22 +48,34 @@ def initializer(row):
     return f"{{{', '.join(names)}, {row.amic}}},\n"
 
 
+def arm(address):
+    """The case of a row, as C writes it."""
+    return f"case {address}: cycle_in(core, memory, &rows[{address}]); return;\n"
+
+
 def interpreters(folder):
-    """The interpreter, built in a folder by each compiler that is there."""
+    """The interpreter, built in a folder in each way by each compiler that is there."""
     (folder / "rows.h").write_text("".join(initializer(row) for row in ROWS))
+    (folder / "arms.h").write_text("".join(arm(address) for address in LISTED))
     found = [compiler for compiler in COMPILERS if shutil.which(compiler)]
     if not found:
         raise Failed("neither gcc nor clang is there to build the interpreter")
-    return [build(compiler, folder) for compiler in found]
+    return [build(way, compiler, folder) for way in WAYS for compiler in found]
 
 
-def build(compiler, folder):
-    """The interpreter, built by one compiler. Its warnings go to standard error."""
-    path = folder / f"interpreter-{compiler}"
-    command = [compiler, *FLAGS, "-I", str(folder), str(HERE / "interpreter.c"), "-o", str(path)]
+def build(way, compiler, folder):
+    """The interpreter, built in one way by one compiler. Its warnings go to standard error."""
+    path = folder / f"{way}, {compiler}".replace(", ", "-").replace(" ", "-")
+    command = [compiler, *FLAGS, *WAYS[way], "-I", str(folder), str(HERE / "interpreter.c"), "-o", str(path)]
     if subprocess.run(command).returncode:
         raise Failed(f"{compiler} does not build the interpreter")
-    return Program(f"interpreter {compiler}", path)
+    return Program(f"{way}, {compiler}", path)
+
+
+def sources_since(program):
+    """Whether a source of the crates is newer than a program."""
+    built = program.path.stat().st_mtime
+    return any(source.stat().st_mtime > built for source in (HERE.parent / "crates").glob("*/src/**/*.rt"))
 
 
 def replies(program, job):

@@ -1,14 +1,15 @@
 //! The cycle by the row at hand.
 //!
-//! A cycle asks the fields of its row what to do. For each of the 159 rows of the listing (rows/specs/Rows.antt) there is
-//! a function here with that row as a constant, so that the compiler answers these questions beforehand, and leaves the
-//! row's work alone. A row that has no arm goes by the table: slower, with the same result.
+//! A cycle asks the fields of its row what to do. For each of the 159 rows of the listing (rows/specs/Rows.antt) there
+//! is a function here with that row as a constant, so that the compiler answers these questions beforehand, and leaves
+//! the row's work alone. A row that has no arm goes by the table: slower, with the same result.
 //!
 //! That hangs on hints, here and in the crates below. `#[inline(always)]` stands on every small function that a cycle
 //! goes through: a function that is called, and not taken into its caller, does not know the row. It does not stand on
-//! `cycle_in`: the toolchain drops the hint, with no message, where a function would grow very large, and `cycle_by_row`
-//! would. In a program that only runs, each `cycle_in` has one caller, and LLVM takes it in by itself; where the program
-//! clocks too, it takes in the small ones. The table stays as it is, and is read where the row is not a constant.
+//! `cycle_in`: the toolchain drops the hint, with no message, where a function would grow very large, and
+//! `cycle_by_row` would. Where `cycle_by_row` has one caller, each `cycle_in` has one too, and LLVM takes it in by
+//! itself; with a second caller it would take in none. The table stays as it is, and is read where the row is not a
+//! constant.
 
 ghost use Rattle.std.specs.Prelude.{◌≡◌, Bool, ℕ};
 ghost use Rattle.microprogram.specs.ChipCycle.{ChipCycle};

@@ -8,7 +8,7 @@ ghost use Rattle.r3000.specs.Promise.{Happens, IsPromised, Upholds};
 
 use super::denial::Denial;
 use super::limits::{MAX_LINES, REGISTERS};
-use super::processor::{Processor, cycle};
+use super::processor::Processor;
 use super::promise::promise;
 use super::report::{Clocked, Report};
 use bus::memory::Bus;
@@ -54,21 +54,13 @@ impl<B: Bus> Core<B> {
         ensures { Happens B.Bus.means B.Bus.steps (λ c d. Clocks B.Bus.steps c result d) self.old self.new }
     {
         promise::<B>();
-        let Processor {
-            mut chip,
-            lines,
-            mut counts,
-        } = self.processor;
-        counts.check_cycles(1)?;
-        let frozen = cycle(&mut chip, lines, &mut counts, &mut self.pile);
-        self.processor = Processor {
-            chip,
-            lines,
-            counts,
-        };
+        let before = self.processor.counts;
+        before.check_cycles(1)?;
+        self.processor.cycles(1, &mut self.pile);
+        let report = self.processor.counts.report;
         Ok(Clocked {
-            frozen,
-            report: counts.report,
+            frozen: report.frozen > before.report.frozen,
+            report,
         })
     }
 
@@ -78,21 +70,9 @@ impl<B: Bus> Core<B> {
             (λ c d. Runs B.Bus.steps (Upholds B.Bus.means B.Bus.steps c) count c result d) self.old self.new }
     {
         promise::<B>();
-        let Processor {
-            mut chip,
-            lines,
-            mut counts,
-        } = self.processor;
-        counts.check_run(count)?;
-        for _ in 0..count {
-            cycle(&mut chip, lines, &mut counts, &mut self.pile);
-        }
-        self.processor = Processor {
-            chip,
-            lines,
-            counts,
-        };
-        Ok(counts.report)
+        self.processor.counts.check_run(count)?;
+        self.processor.cycles(count, &mut self.pile);
+        Ok(self.processor.counts.report)
     }
 
     /// Sets the lines: bits 0–5 are IT0–IT5, bit 6 is RST.

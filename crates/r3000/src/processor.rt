@@ -1,10 +1,10 @@
 //! A processor and its cycle.
 
-ghost use Rattle.std.specs.Prelude.{◌≡◌, ◌<◌};
+ghost use Rattle.std.specs.Prelude.{◌≡◌, ◌<◌, ◌≤◌, ◌+◌, Bool};
 ghost use Rattle.microprogram.specs.Cycle.{chip_state, state_at_power_up};
 ghost use Rattle.r3000.specs.Core.{machine_of_parts};
 ghost use Rattle.r3000.specs.Counts.{zero_counts};
-ghost use Rattle.r3000.specs.Cycle.{Cycle};
+ghost use Rattle.r3000.specs.Cycle.{Cycle, Cycles};
 ghost use Rattle.r3000.specs.Limits.{max_cycles};
 ghost use Rattle.r3000.specs.Machine.{History};
 
@@ -36,22 +36,47 @@ impl Processor {
             counts: Counts::new(),
         }
     }
+
+    /// So many cycles on a pile. All cycles are made here: so the code of the rows has one caller, and is taken in.
+    pub(crate) fn cycles<B: Bus>(&mut self, count: u32, pile: &mut B)
+        requires { self.old.counts.report.cycles + count ≤ max_cycles }
+        ensures { (h : History)
+            → (k : History)
+            × Cycles B.Bus.steps (λ c. Unit {0}) count (machine_of_parts h self.old pile.old)
+            (machine_of_parts k self.new pile.new) }
+    {
+        let Processor {
+            mut chip,
+            lines,
+            mut counts,
+        } = *self;
+        for _ in 0..count {
+            cycle(&mut chip, lines, &mut counts, pile);
+        }
+        *self = Processor {
+            chip,
+            lines,
+            counts,
+        };
+    }
 }
 
-/// One cycle of a processor, given in its parts, on a pile; tells whether it was frozen. In parts, the counts are apart
-/// from the chip, whose arrays have to lie in memory: so the compiler can keep the counts in registers.
+/// One cycle of a processor, given in its parts, on a pile. In parts, the counts are apart from the chip, whose arrays
+/// have to lie in memory: so the compiler can keep the counts in registers.
 #[inline(always)]
-pub(crate) fn cycle<B: Bus>(chip: &mut Chip, lines: u8, counts: &mut Counts, pile: &mut B) -> bool
+fn cycle<B: Bus>(chip: &mut Chip, lines: u8, counts: &mut Counts, pile: &mut B)
     requires { counts.old.report.cycles < max_cycles }
     ensures { (h : History)
         → (k : History)
+        × (frozen : Bool)
         × Cycle B.Bus.steps
         (machine_of_parts h (record { chip = chip.old; lines = lines; counts = counts.old }) pile.old)
-        result
+        frozen
         (machine_of_parts k (record { chip = chip.new; lines = lines; counts = counts.new }) pile.new) }
 {
     let end = cycle_by_row(chip, lines, pile);
-    let frozen = matches!(end, CycleEnd::Frozen);
-    counts.count(frozen, matches!(end, CycleEnd::Boundary));
-    frozen
+    counts.count(
+        matches!(end, CycleEnd::Frozen),
+        matches!(end, CycleEnd::Boundary),
+    );
 }

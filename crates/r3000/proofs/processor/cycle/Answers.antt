@@ -67,5 +67,6 @@ returns g c h =
     let old = machine_of_parts h (record { chip = c.args.chip.now; lines = c.args.lines; counts = c.args.counts.now })
     c.args.pile.now in (
       history_after old.processor c.match-matches.matches h,
+      c.match-matches.matches,
       record { answer = done.answer; asks = done.asks; freeze = freeze; after = rw (freeze, counted, done.after) refl },
     )
