@@ -27,7 +27,7 @@ pub trait Bus {
     /// Waits a request out: asks for it until the answer is no wait, which takes at most one request more than the
     /// longest wait.
     ///
-    /// A layer that knows its waits has a shorter body. It gives and leaves what asking again and again would.
+    /// A layer that knows its waits has a shorter body, which gives and leaves what asking again and again would.
     fn settle(&mut self, q: Request) -> Settled
         ensures { Settles means steps self.old q result self.new }
     {

@@ -101,7 +101,7 @@ fn load(registers: &mut Registers, transfer: Transfer, answer: Option<Answer>)
 }
 
 /// Puts the flag that is up after a row. One that is up is never replaced by another, so it is written only where it
-/// rises or goes: the next cycle asks for it first, and would wait for what is just being written.
+/// rises or goes, and in all other cycles it is only read.
 #[inline(always)]
 fn put_flag(registers: &mut Registers, check: Check)
     requires { check.before ≡ registers.old.flag }
