@@ -9,4 +9,4 @@ pub mod chip_cycle;
 pub mod cycle;
 mod faults;
 mod operands;
-pub mod sequencing;
+mod sequencing;

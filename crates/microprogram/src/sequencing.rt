@@ -22,7 +22,7 @@ fn bit(n: u32, word: u32) -> u16
 
 /// Whether a path ends with a row of this sequencing.
 #[inline(always)]
-pub fn ends_path(sequencing: Sequencing) -> bool
+pub(crate) fn ends_path(sequencing: Sequencing) -> bool
     ensures { result ≡ ends_path sequencing }
 {
     matches!(sequencing, Sequencing::Rie)

@@ -3,7 +3,6 @@
 /// The counts since power-up, and the place: the unfrozen cycles since the last boundary or power-up.
 #[derive(Clone, Copy, Default, PartialEq, Eq)]
 pub struct Report {
-    // apart from `cycles`: both rise in a frozen cycle, and written as one wide word they would be slow to read back
     pub frozen: u64,
     pub boundaries: u64,
     pub place: u64,

@@ -9,6 +9,11 @@ use layers::window::Window;
 use memories::ram::Ram;
 use memories::scratch::Scratch;
 
+/// A request that ended after so many waits.
+fn after(waits: u16, outcome: Result<u32, BusFault>) -> Settled {
+    Settled { waits, outcome }
+}
+
 #[test]
 fn a_delay_interrupted(rt: HostRuntime) {
     let mut delay = Delay::new(2, Scratch::new(0));
@@ -27,35 +32,13 @@ fn a_pile_of_three_layers(rt: HostRuntime) {
     let split = Split::new(0x103, Ram::new(0xF8, &mut low), Ram::new(0x100, &mut high));
     let mut pile = Window::new(0xFB, 0x13, Delay::new(2, split));
     let done = pile.settle(Request::write(Width::Word, 4, 0x0A0B_0C0D));
-    assert!(rt;
-        done == Settled {
-            waits: 2,
-            outcome: Ok(0),
-        }
-    );
+    assert!(rt; done == after(2, Ok(0)));
     let done = pile.settle(Request::write(Width::Word, 8, 0x0102_0304));
-    assert!(rt;
-        done == Settled {
-            waits: 2,
-            outcome: Ok(0),
-        }
-    );
-    assert!(rt;
-        pile.settle(Request::read(4))
-            == Settled {
-                waits: 2,
-                outcome: Ok(0x0A0B_0C0D),
-            }
-    );
+    assert!(rt; done == after(2, Ok(0)));
+    assert!(rt; pile.settle(Request::read(4)) == after(2, Ok(0x0A0B_0C0D)));
     assert_eq!(rt; pile.look(8), Some(4));
     let refused = BusFault { address: 0x10 };
-    assert!(rt;
-        pile.settle(Request::read(0x10))
-            == Settled {
-                waits: 0,
-                outcome: Err(refused),
-            }
-    );
+    assert!(rt; pile.settle(Request::read(0x10)) == after(0, Err(refused)));
 }
 
 #[test]
@@ -63,18 +46,6 @@ fn a_request_that_is_waited_out_from_the_middle_on(rt: HostRuntime) {
     let mut bytes = [1, 2, 3, 4];
     let mut memory = Delay::new(3, Ram::new(0, &mut bytes));
     assert!(rt; memory.request(Request::read(0)) == Answer::Wait);
-    assert!(rt;
-        memory.settle(Request::read(0))
-            == Settled {
-                waits: 2,
-                outcome: Ok(0x0403_0201),
-            }
-    );
-    assert!(rt;
-        memory.settle(Request::read(0))
-            == Settled {
-                waits: 3,
-                outcome: Ok(0x0403_0201),
-            }
-    );
+    assert!(rt; memory.settle(Request::read(0)) == after(2, Ok(0x0403_0201)));
+    assert!(rt; memory.settle(Request::read(0)) == after(3, Ok(0x0403_0201)));
 }
