@@ -114,6 +114,7 @@ impl Bus for Ram<'_> {
         self.answer(q)
     }
 
+    #[inline(always)]
     fn look(&self, address: u32) -> Option<u8> {
         self.region().look(address)
     }

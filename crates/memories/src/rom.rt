@@ -43,6 +43,7 @@ impl Bus for Rom<'_> {
         }
     }
 
+    #[inline(always)]
     fn look(&self, address: u32) -> Option<u8> {
         self.region.look(address)
     }
