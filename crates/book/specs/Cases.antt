@@ -64,7 +64,7 @@ pub record CasesHold (w : WorkedCases) : Type 0 where
       ≡ cr_code (after_two_steps no_refusals (about_to_run 0x8C220000 0 0x80000002 0 0)).regs.cr
   pub load_bar : w.load_bar ≡ (after_two_steps no_refusals (about_to_run 0x8C220000 0 0x80000002 0 0)).regs.bar
 
--- the words that the cases come to, by the rules
+-- the words that the cases come to
 abbrev pub worked_words : WorkedCases
 worked_words =
     record {

@@ -58,4 +58,8 @@ pub trait Bus {
     where
         Self: Sized,
         ensures { Keeps means steps };
+
+    /// The same theorem at a memory whose type is known only at run time, as behind `dyn Bus`.
+    fn keeps_points(&self)
+        ensures { Keeps means steps };
 }

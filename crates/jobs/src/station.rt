@@ -111,7 +111,7 @@ fn after_start<B: Bus>(core: &mut Core<B>, order: Order) -> Result<Reply, JobFau
 
 impl<B: Bus> Station<B> {
     /// Before the start.
-    pub fn loading(pile: B) -> Station<B>
+    pub(crate) fn loading(pile: B) -> Station<B>
         ensures { (s : B) (h : History) → stage_of_station s h result ≡ loading pile }
     {
         Station {
@@ -121,7 +121,7 @@ impl<B: Bus> Station<B> {
     }
 
     /// From the start on.
-    pub fn running(core: Core<B>) -> Station<B>
+    fn running(core: Core<B>) -> Station<B>
         ensures { (s : B) (h : History) → stage_of_station s h result ≡ running s (machine_of h core) }
     {
         let (processor, pile) = core.into_parts();

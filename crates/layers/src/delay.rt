@@ -133,4 +133,8 @@ impl<B: Bus> Bus for Delay<B> {
     fn keeps() {
         B::keeps();
     }
+
+    fn keeps_points(&self) {
+        Self::keeps();
+    }
 }

@@ -81,4 +81,8 @@ impl<A: Bus, B: Bus> Bus for Split<A, B> {
         A::keeps();
         B::keeps();
     }
+
+    fn keeps_points(&self) {
+        Self::keeps();
+    }
 }

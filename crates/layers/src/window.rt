@@ -83,4 +83,8 @@ impl<B: Bus> Bus for Window<B> {
     fn keeps() {
         B::keeps();
     }
+
+    fn keeps_points(&self) {
+        Self::keeps();
+    }
 }

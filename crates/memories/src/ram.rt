@@ -127,4 +127,10 @@ impl Bus for Ram<'_> {
     fn keeps()
         ensures { Keeps ram_means RamSteps }
     {}
+
+    fn keeps_points(&self)
+        ensures { Keeps ram_means RamSteps }
+    {
+        Self::keeps();
+    }
 }

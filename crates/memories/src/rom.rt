@@ -56,4 +56,10 @@ impl Bus for Rom<'_> {
     fn keeps()
         ensures { Keeps rom_means RomSteps }
     {}
+
+    fn keeps_points(&self)
+        ensures { Keeps rom_means RomSteps }
+    {
+        Self::keeps();
+    }
 }

@@ -61,4 +61,8 @@ impl Bus for Scratch {
     }
 
     fn keeps() {}
+
+    fn keeps_points(&self) {
+        Self::keeps();
+    }
 }

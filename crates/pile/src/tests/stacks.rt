@@ -1,5 +1,7 @@
 //! Layers over memories.
 
+ghost use Rattle.bus.specs.Meaning.{Answers};
+
 use bus::memory::Bus;
 use bus::request::{Answer, Request, Width};
 use bus::settle::{BusFault, Settled};
@@ -50,8 +52,11 @@ fn a_request_that_is_waited_out_from_the_middle_on(rt: HostRuntime) {
     assert!(rt; memory.settle(Request::read(0)) == after(3, Ok(0x0403_0201)));
 }
 
-/// The answer of a memory whose type is known only when the program runs, and a byte of it.
-fn ask(bus: &mut dyn Bus, q: Request) -> (Answer, Option<u8>) {
+/// The answer of a memory whose type is known only when the program runs, and a byte of it. It keeps the points.
+fn ask(bus: &mut dyn Bus, q: Request) -> (Answer, Option<u8>)
+    ensures { Answers (means bus.old) q result.0 (means bus.new) }
+{
+    bus.keeps_points();
     (bus.request(q), bus.look(q.address))
 }
 
