@@ -63,3 +63,24 @@ pub record CasesHold (w : WorkedCases) : Type 0 where
   pub load_code : w.load_code
       ≡ cr_code (after_two_steps no_refusals (about_to_run 0x8C220000 0 0x80000002 0 0)).regs.cr
   pub load_bar : w.load_bar ≡ (after_two_steps no_refusals (about_to_run 0x8C220000 0 0x80000002 0 0)).regs.bar
+
+-- the words that the cases come to
+abbrev pub worked_words : WorkedCases
+worked_words =
+    record {
+      add_code = 12;
+      add_bar = 0x80000000;
+      least_quotient = 0x80000000;
+      least_remainder = 0;
+      odd_quotient = 0xFFFFFFFD;
+      odd_remainder = 0xFFFFFFFF;
+      zero_quotient = 0xFFFFFFFF;
+      zero_remainder = 7;
+      link_first = 0x80000104;
+      interrupt_epc = 0x80000200;
+      interrupt_sr = 0x404;
+      fetch_epc = 0x80003FFC;
+      fetch_code = 6;
+      load_code = 4;
+      load_bar = 0x80000002;
+    }

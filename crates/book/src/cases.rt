@@ -1,6 +1,7 @@
 //! Worked cases of the book.
 
-ghost use Rattle.book.specs.Cases.{CasesHold};
+ghost use Rattle.std.specs.Prelude.{◌≡◌};
+ghost use Rattle.book.specs.Cases.{CasesHold, worked_words};
 
 /// The words that the worked cases come to, each by the name that `specs/Cases.antt` gives it.
 #[derive(Clone, Copy)]
@@ -24,7 +25,8 @@ pub struct WorkedCases {
 
 /// Cases of the book, worked out.
 pub fn worked_cases() -> WorkedCases
-    ensures { CasesHold result }
+    ensures words { result ≡ worked_words }
+    ensures cases { CasesHold result }
 {
     WorkedCases {
         add_code: 12,

@@ -28,7 +28,10 @@ pub trait Bus {
     /// longest wait.
     ///
     /// A layer that knows its waits has a shorter body, which gives and leaves what asking again and again would.
+    #[inline(always)]
     fn settle(&mut self, q: Request) -> Settled
+    where
+        Self: Sized,
         ensures { Settles means steps self.old q result self.new }
     {
         Self::keeps();
@@ -52,5 +55,11 @@ pub trait Bus {
     /// The theorem that each step keeps points 1 to 4 of the bus (docs/BUS.md); point 5 is the clause of `look`.
     /// A caller gets it from the contract.
     fn keeps()
+    where
+        Self: Sized,
+        ensures { Keeps means steps };
+
+    /// The same theorem at a memory whose type is known only at run time, as behind `dyn Bus`.
+    fn keeps_points(&self)
         ensures { Keeps means steps };
 }

@@ -21,6 +21,7 @@ pub struct Settled {
 }
 
 /// How the answer ends the request; a wait does not.
+#[inline(always)]
 pub(crate) fn end(request: Request, answer: Answer) -> Option<Result<u32, BusFault>>
     ensures { result ≡ end_of request answer }
 {

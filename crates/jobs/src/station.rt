@@ -25,10 +25,10 @@ use text::reply::{Counts, Denied, Reply};
 
 /// A pile, and the processor that runs on it from the start on.
 #[derive(Drop)]
-pub(crate) struct Station<B> {
-    pub(crate) pile: B,
+pub struct Station<B> {
+    pub pile: B,
     /// None before the start.
-    pub(crate) processor: Option<Processor>,
+    pub processor: Option<Processor>,
 }
 
 /// Writes a word, and waits it out. A refusal of the bus becomes the load's fault.
@@ -131,8 +131,8 @@ impl<B: Bus> Station<B> {
         }
     }
 
-    /// Does what a line asks for.
-    fn do_order(self, order: Order) -> (Station<B>, Result<Reply, JobFault>)
+    /// Does what a line asks for. Gives the station after it, and the reply or why the line is denied.
+    pub fn do_order(self, order: Order) -> (Station<B>, Result<Reply, JobFault>)
         ensures { StationDoes B.Bus.means B.Bus.steps (λ e f. AnswersOrder B.Bus.means B.Bus.steps e order result.1 f)
             self result.0 }
     {

@@ -107,6 +107,7 @@ impl<B: Bus> Bus for Delay<B> {
     }
 
     /// The delay's own waits are known without asking; those of the memory below come after them.
+    #[inline(always)]
     fn settle(&mut self, q: Request) -> Settled {
         Self::keeps();
         asked_is_settled();
@@ -119,6 +120,7 @@ impl<B: Bus> Bus for Delay<B> {
         }
     }
 
+    #[inline(always)]
     fn look(&self, address: u32) -> Option<u8> {
         self.below.look(address)
     }
@@ -130,5 +132,9 @@ impl<B: Bus> Bus for Delay<B> {
 
     fn keeps() {
         B::keeps();
+    }
+
+    fn keeps_points(&self) {
+        Self::keeps();
     }
 }

@@ -52,6 +52,7 @@ impl<A: Bus, B: Bus> Bus for Split<A, B> {
         }
     }
 
+    #[inline(always)]
     fn settle(&mut self, q: Request) -> Settled {
         Self::keeps();
         asked_is_settled();
@@ -62,6 +63,7 @@ impl<A: Bus, B: Bus> Bus for Split<A, B> {
         }
     }
 
+    #[inline(always)]
     fn look(&self, address: u32) -> Option<u8> {
         if self.is_first(address) {
             self.first.look(address)
@@ -78,5 +80,9 @@ impl<A: Bus, B: Bus> Bus for Split<A, B> {
     fn keeps() {
         A::keeps();
         B::keeps();
+    }
+
+    fn keeps_points(&self) {
+        Self::keeps();
     }
 }

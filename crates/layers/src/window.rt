@@ -50,6 +50,7 @@ impl<B: Bus> Bus for Window<B> {
     }
 
     /// A fault carries the window's own address.
+    #[inline(always)]
     fn settle(&mut self, q: Request) -> Settled {
         Self::keeps();
         asked_is_settled();
@@ -69,6 +70,7 @@ impl<B: Bus> Bus for Window<B> {
         }
     }
 
+    #[inline(always)]
     fn look(&self, address: u32) -> Option<u8> {
         self.below.look(self.checked_address_below(address)?)
     }
@@ -80,5 +82,9 @@ impl<B: Bus> Bus for Window<B> {
 
     fn keeps() {
         B::keeps();
+    }
+
+    fn keeps_points(&self) {
+        Self::keeps();
     }
 }

@@ -114,6 +114,7 @@ impl Bus for Ram<'_> {
         self.answer(q)
     }
 
+    #[inline(always)]
     fn look(&self, address: u32) -> Option<u8> {
         self.region().look(address)
     }
@@ -126,4 +127,10 @@ impl Bus for Ram<'_> {
     fn keeps()
         ensures { Keeps ram_means RamSteps }
     {}
+
+    fn keeps_points(&self)
+        ensures { Keeps ram_means RamSteps }
+    {
+        Self::keeps();
+    }
 }

@@ -45,6 +45,7 @@ impl Region<'_> {
     }
 
     /// The byte at an address, or none where its word lies outside.
+    #[inline(always)]
     pub(crate) fn look(&self, address: u32) -> Option<u8>
         ensures { result ≡ look_result (ram self.now.base self.now.bytes.now) address }
     {

@@ -43,6 +43,7 @@ impl Bus for Rom<'_> {
         }
     }
 
+    #[inline(always)]
     fn look(&self, address: u32) -> Option<u8> {
         self.region.look(address)
     }
@@ -55,4 +56,10 @@ impl Bus for Rom<'_> {
     fn keeps()
         ensures { Keeps rom_means RomSteps }
     {}
+
+    fn keeps_points(&self)
+        ensures { Keeps rom_means RomSteps }
+    {
+        Self::keeps();
+    }
 }

@@ -48,6 +48,7 @@ impl Bus for Scratch {
         }
     }
 
+    #[inline(always)]
     fn look(&self, address: u32) -> Option<u8> {
         let base = self.base;
         let bytes = self.bytes.as_ref()?;
@@ -60,4 +61,8 @@ impl Bus for Scratch {
     }
 
     fn keeps() {}
+
+    fn keeps_points(&self) {
+        Self::keeps();
+    }
 }

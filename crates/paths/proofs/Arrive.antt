@@ -39,15 +39,15 @@ module _ (deny : Refusals) (lines : ℕ) where
       → world_ends_path s ≡ ends_path w.sequencing
   here n w ps s h = ap (λ k. ends_path k.sequencing) (ap row_at h.0 ∙ h.1)
 
-  pile_is_decided : (ps : Rows) (s : World) → Leads deny lines ps s → only_last ps ≡ true → (n : ℕ) → n + 1 < length ps
+  goes_on : (ps : Rows) (s : World) → Leads deny lines ps s → only_last ps ≡ true → (n : ℕ) → n + 1 < length ps
       → world_ends_path (world_after_cycles deny lines n s) ≡ false
   unfolding world_after_cycles
-  pile_is_decided [] s h p n l = absurd (omega arith)
-  pile_is_decided (q ∷ []) s h p n l = absurd (omega arith)
-  pile_is_decided (q ∷ (t ∷ ps)) s h p zero l = here q.0 q.1 (t ∷ ps) s h ∙ not-true _ (and_parts _ _ p).0
-  pile_is_decided (q ∷ (t ∷ ps)) s h p (suc n) l =
+  goes_on [] s h p n l = absurd (omega arith)
+  goes_on (q ∷ []) s h p n l = absurd (omega arith)
+  goes_on (q ∷ (t ∷ ps)) s h p zero l = here q.0 q.1 (t ∷ ps) s h ∙ not-true _ (and_parts _ _ p).0
+  goes_on (q ∷ (t ∷ ps)) s h p (suc n) l =
       ap (λ u. world_ends_path (world_after_cycles deny lines n u)) (next_world q.0 q.1 (t ∷ ps) s h)
-      ∙ pile_is_decided (t ∷ ps) (world_after_row q.1 deny lines s) h.2 (and_parts _ _ p).1 n (omega arith)
+      ∙ goes_on (t ∷ ps) (world_after_row q.1 deny lines s) h.2 (and_parts _ _ p).1 n (omega arith)
 
   comes_to_end : (ps : Rows) (s : World) → Leads deny lines ps s → only_last ps ≡ true → (n : ℕ) → n + 1 ≡ length ps
       → world_ends_path (world_after_cycles deny lines n s) ≡ true
@@ -80,6 +80,6 @@ module _ (deny : Refusals) (lines : ℕ) where
                   ∙ walked deny lines h.rows (world_at b dt row flag) h.leads
                   ∙ h.arrives;
             };
-        going = λ n l. pile_is_decided h.rows (world_at b dt row flag) h.leads h.plain n (omega (arith, h.long));
+        going = λ n l. goes_on h.rows (world_at b dt row flag) h.leads h.plain n (omega (arith, h.long));
         ending = λ n l. comes_to_end h.rows (world_at b dt row flag) h.leads h.plain n (omega (arith, h.long));
       }

@@ -120,10 +120,11 @@ impl<B: Bus> Core<B> {
         ensures core { Happens B.Bus.means B.Bus.steps (λ c d. d ≡ c) self.now self.now }
     {
         promise::<B>();
-        self.snapshot()
-            .get(usize::from(number))
-            .copied()
-            .ok_or(Denial::Range)
+        // the snapshot is made only where it is read
+        if usize::from(number) >= REGISTERS {
+            return Err(Denial::Range);
+        }
+        Ok(self.snapshot()[usize::from(number)])
     }
 
     /// The ledger's entry of a code, 0–15.

@@ -1,5 +1,5 @@
 -- What a layer keeps that hands a request on to the memory below it. Assumes nothing.
-use Rattle.std.specs.Prelude.{◌≡◌, ℕ, ◌+◌, ◌-◌, ◌%◌, ◌<◌, ◌≤◌, ltb, leb, ◌⊎◌, ◌≢◌, refl}
+use Rattle.std.specs.Prelude.{◌≡◌, ℕ, ◌+◌, ◌-◌, ◌%◌, ◌<◌, ◌≤◌, ltb, leb, nat_le, ◌⊎◌, ◌≢◌, refl}
 use Rattle.std.specs.Prelude.{Bool, true, false, cond}
 use Rattle.std.proofs.Common.{inl, inr, sym, ◌∙◌, add-zero, arith}
 use Rattle.std.proofs.lemmas.Bool.{cases_eq}
@@ -17,6 +17,10 @@ use Rattle.bus.specs.declared.request.Width.TheVariants.{Word, Half, Byte}
 
 abbrev pub request : ℕ → Action → Request
 request address x = record { address = address; action = x }
+
+-- two tests agree where each order gives the other
+pub same_order : (a b c d : ℕ) → (a ≤ b → c ≤ d) → (c ≤ d → a ≤ b) → nat_le a b ≡ nat_le c d
+same_order a b c d there back = grind (arith, nat_tests)
 
 -- where in its word a write begins
 lane : Width → ℕ → ℕ
@@ -92,9 +96,10 @@ module _ {m p : Meaning} {address to : ℕ} where
       let fits = lane_fits w address in
       let fits' = lane_fits w to in
       let level = same_lane w address to h.low in
-      let from : leb (first_address w address) x ≡ leb (first_address w to) x' = grind (arith, nat_tests) in
+      let from : leb (first_address w address) x ≡ leb (first_address w to) x' =
+      same_order _ _ _ _ (λ l. omega arith) (λ l. omega arith) in
       let until : ltb x (first_address w address + byte_count w) ≡ ltb x' (first_address w to + byte_count w) =
-      grind (arith, nat_tests) in
+      same_order _ _ _ _ (λ l. omega arith) (λ l. omega arith) in
       let place : x - first_address w address ≡ x' - first_address w to = omega arith in
       rw (from, until, place, same_byte (action.Write w d) h x x' here there)
 

@@ -89,6 +89,9 @@ module _ (mark address : ℕ) (y : Action) where
 module _ {A B : Type 0} {meansA : A → Meaning} {meansB : B → Meaning}
     {stepsA : A → Request → Answer → A → Type 0} {stepsB : B → Request → Answer → B → Type 0}
     (keepsA : Keeps meansA stepsA) (keepsB : Keeps meansB stepsB) where
+  sound_of : (mark : ℕ) (one : A) (two : B) → IsSound (split mark (meansA one) (meansB two))
+  sound_of mark one two = split_sound mark (meansA one) (meansB two) (keepsA.sound one) (keepsB.sound two)
+
   tells : (s : Split A B) (q : Request) (a : Answer) (t : Split A B) → SplitSteps stepsA stepsB s q a t
       → Answers (split_means meansA meansB s) q a (split_means meansA meansB t)
   tells s q a t h =
@@ -113,9 +116,4 @@ module _ {A B : Type 0} {meansA : A → Meaning} {meansB : B → Meaning}
           (ltb-false _ _ e) (keepsB.tells s.second q a t.second k.0))
 
   pub split_keeps : Keeps (split_means meansA meansB) (SplitSteps stepsA stepsB)
-  split_keeps =
-      record {
-        sound =
-            λ s. split_sound s.mark (meansA s.first) (meansB s.second) (keepsA.sound s.first) (keepsB.sound s.second);
-        tells = tells;
-      }
+  split_keeps = record { sound = λ s. sound_of s.mark s.first s.second; tells = tells }

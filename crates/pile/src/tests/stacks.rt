@@ -1,5 +1,7 @@
 //! Layers over memories.
 
+ghost use Rattle.bus.specs.Meaning.{Answers};
+
 use bus::memory::Bus;
 use bus::request::{Answer, Request, Width};
 use bus::settle::{BusFault, Settled};
@@ -48,4 +50,22 @@ fn a_request_that_is_waited_out_from_the_middle_on(rt: HostRuntime) {
     assert!(rt; memory.request(Request::read(0)) == Answer::Wait);
     assert!(rt; memory.settle(Request::read(0)) == after(2, Ok(0x0403_0201)));
     assert!(rt; memory.settle(Request::read(0)) == after(3, Ok(0x0403_0201)));
+}
+
+/// The answer of a memory whose type is known only when the program runs, and a byte of it. It keeps the points.
+fn ask(bus: &mut dyn Bus, q: Request) -> (Answer, Option<u8>)
+    ensures { Answers (means bus.old) q result.0 (means bus.new) }
+{
+    bus.keeps_points();
+    (bus.request(q), bus.look(q.address))
+}
+
+#[test]
+fn memories_whose_types_are_not_known(rt: HostRuntime) {
+    let mut delay = Delay::new(1, Scratch::new(0));
+    let write = Request::write(Width::Byte, 3, 7);
+    assert!(rt; ask(&mut delay, write) == (Answer::Wait, Some(0)));
+    assert!(rt; ask(&mut delay, write) == (Answer::Done(0), Some(7)));
+    let mut scratch = Scratch::new(0x100);
+    assert!(rt; ask(&mut scratch, Request::read(0)) == (Answer::BusError, None));
 }
