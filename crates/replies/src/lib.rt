@@ -7,6 +7,8 @@ ghost use Rattle.std.specs.Iterator.{YieldsFirst, item_count};
 ghost use Rattle.replies.specs.Replies.{enough_bytes, replies_to, replies_to_come};
 
 pub mod example;
+#[cfg(test)]
+mod tests;
 
 use jobs::job::Job;
 use jobs::limits::MAX_JOB;
